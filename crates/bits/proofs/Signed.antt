@@ -1,0 +1,100 @@
+-- Laws of two's complement in n bits, and of the shifts that make 2 ^ n.
+use Prim.Native.Nat.{ℕ, zero, suc, _+_, _-_, _*_, _%_, _^_, _<_, _≤_}
+use mathlib.Core.Path.{_≡_, refl, ap, sym, _∙_}
+use mathlib.Core.Bool.{Bool, true, false}
+use native.Mathlib.Omega.{arith}
+use native.Mathlib.Nat.{pow-succ', one-mul, mod-eq-of-lt}
+use borrow.Author.Tests.{lt-ltb, le-ltb, ltb-true}
+use lib.Dec.{T, leb·zero}
+use lib.IntN.{ℤ, pos, negsuc, natAbs, _+ℤ_, _-ℤ_}
+use lib.Pow.{pow-lt, pow-mono, pow-pos}
+use lib.Signed.{leZ, nonNeg}
+use mir.Val.{toZ, ofZ, Fits, SFits}
+use mir.ValLaws.{toZ-pos, toZ-ofZ}
+use mir.Syntax.{w32, w64}
+use Rattle.bits.specs.Reading.{signedOf}
+use Rattle.bits.specs.Coding.{signed, holds, complement}
+
+-- 1 << k in w bits
+pub shl-one : (k w : ℕ) → k < w → 1 * 2 ^ k % 2 ^ w ≡ 2 ^ k
+shl-one k w h = rw (one-mul (2 ^ k), mod-eq-of-lt (pow-lt h))
+
+pub twice-half : (n : ℕ) → 0 < n → 2 ^ n ≡ 2 * 2 ^ (n - 1)
+twice-half zero h = absurd (omega arith)
+twice-half (suc n) h = let e : suc n - 1 ≡ n = omega arith in rw (e, pow-succ' 2 n)
+
+pub sub-below : (v m : ℕ) → v < m → pos v -ℤ pos m ≡ negsuc (m - suc v)
+sub-below v zero h = absurd (omega arith)
+sub-below v (suc m) h = rw (lt-ltb v (suc m) h)
+
+pub signed-low : (n v : ℕ) → v < 2 ^ (n - 1) → signedOf n v ≡ pos v
+signed-low n v h = rw (lt-ltb v (2 ^ (n - 1)) h)
+
+pub signed-high : (n v : ℕ) → 2 ^ (n - 1) ≤ v → v < 2 ^ n → signedOf n v ≡ negsuc (2 ^ n - suc v)
+signed-high n v h k = rw (le-ltb v (2 ^ (n - 1)) h) (sub-below v (2 ^ n) k)
+
+pub power-fits : (n : ℕ) → n ≤ 32 → SFits w64 (pos (1 * 2 ^ n % 18446744073709551616))
+power-fits n h = let p : 2 ^ n ≤ 2 ^ 32 = pow-mono {j = 32} h in rw (shl-one n 64 (omega arith)) (record { sfits = omega arith })
+
+-- of a negative number: v is its code in n bits
+module _ (n v : ℕ) (some : 0 < n) (most : n ≤ 32) (low : 2 ^ (n - 1) ≤ v) (high : v < 2 ^ n) where
+  abbrev difference : ℤ
+  difference = toZ w64 v -ℤ toZ w64 (1 * 2 ^ n % 18446744073709551616)
+
+  difference-is : difference ≡ negsuc (2 ^ n - suc v)
+  difference-is =
+      let p : 2 ^ n ≤ 2 ^ 32 = pow-mono {j = 32} most in
+      rw (shl-one n 64 (omega arith), toZ-pos w64 v (omega arith), toZ-pos w64 (2 ^ n) (omega arith)) (sub-below v (2 ^ n) high)
+
+  small : 2 ^ n - suc v < 2147483648
+  small =
+      let p : 2 ^ (n - 1) ≤ 2 ^ 31 = pow-mono {j = 31} (omega arith) in
+      omega (arith, twice-half n some)
+
+  pub difference-fits : SFits w64 difference
+  difference-fits = let s = small in rw difference-is (record { sfits = omega arith })
+
+  pub signed-fits : SFits w32 (toZ w64 (ofZ w64 difference))
+  signed-fits = let s = small in rw (toZ-ofZ w64 difference difference-fits, difference-is) (record { sfits = omega arith })
+
+  pub signed-is : toZ w32 (ofZ w32 (toZ w64 (ofZ w64 difference))) ≡ signedOf n v
+  signed-is =
+      toZ-ofZ w32 (toZ w64 (ofZ w64 difference)) signed-fits ∙ toZ-ofZ w64 difference difference-fits ∙ difference-is
+      ∙ sym (signed-high n v low high)
+
+-- of a number z in 32 bits, with a sign: what its cast to an unsigned number asks and gives
+pub unsigned-low : (n : ℕ) (z : ℤ) → SFits w32 z → leZ (pos 0) (toZ w32 (ofZ w32 z)) ≡ true
+    → (T (nonNeg (toZ w32 (ofZ w32 z))) × Fits w32 (natAbs (toZ w32 (ofZ w32 z)))) × (natAbs (toZ w32 (ofZ w32 z)) ≡ complement n z)
+unsigned-low n z f h = rw (toZ-ofZ w32 z f) (go z f (rw (toZ-ofZ w32 z f) at h))
+  where
+    go : (z : ℤ) → SFits w32 z → leZ (pos 0) z ≡ true → (T (nonNeg z) × Fits w32 (natAbs z)) × (natAbs z ≡ complement n z)
+    go (pos v) f h = let l = f .sfits in ((tt, record { fits = omega arith }), refl)
+    go (negsuc v) f h = let z : _≡_ {A = ℕ} 0 1 = cc in absurd (omega arith)
+
+module _ (n : ℕ) (z : ℤ) (f : SFits w32 z) (some : 0 < n) (most : n ≤ 32) (held : holds (signed n) z ≡ true) (neg : leZ (pos 0) (toZ w32 (ofZ w32 z)) ≡ false) where
+  abbrev sum : ℤ
+  sum = toZ w64 (1 * 2 ^ n % 18446744073709551616) +ℤ toZ w64 (ofZ w64 (toZ w32 (ofZ w32 z)))
+
+  pub wide-fits : SFits w64 (toZ w32 (ofZ w32 z))
+  wide-fits = rw (toZ-ofZ w32 z f) (let l = f .sfits in record { sfits = omega arith })
+
+  sum-is : (sum ≡ pos (complement n z)) × (complement n z < 4294967296)
+  sum-is =
+      let p : 2 ^ n ≤ 2 ^ 32 = pow-mono {j = 32} most in
+      rw (shl-one n 64 (omega arith), toZ-pos w64 (2 ^ n) (omega arith), toZ-ofZ w64 (toZ w32 (ofZ w32 z)) wide-fits, toZ-ofZ w32 z f)
+      (go z held (rw (toZ-ofZ w32 z f) at neg) p)
+    where
+      go : (z : ℤ) → holds (signed n) z ≡ true → leZ (pos 0) z ≡ false → 2 ^ n ≤ 2 ^ 32 → (pos (2 ^ n) +ℤ z ≡ pos (complement n z)) × (complement n z < 4294967296)
+      go (pos v) h e p = let l : leZ (pos 0) (pos v) ≡ true = leb·zero v in let z : _≡_ {A = ℕ} 0 1 = cc in absurd (omega arith)
+      go (negsuc v) h e p =
+          let l = ltb-true v (2 ^ (n - 1)) h in
+          (rw (le-ltb (2 ^ n) (suc v) (omega (arith, twice-half n some))), omega (arith, pow-pos n))
+
+  pub sum-fits : SFits w64 sum
+  sum-fits = let s = sum-is in rw (s .0) (record { sfits = omega (arith, s .1) })
+
+  pub unsigned-fits : T (nonNeg (toZ w64 (ofZ w64 sum))) × Fits w32 (natAbs (toZ w64 (ofZ w64 sum)))
+  unsigned-fits = let s = sum-is in rw (toZ-ofZ w64 sum sum-fits, s .0) (tt, record { fits = s .1 })
+
+  pub unsigned-is : natAbs (toZ w64 (ofZ w64 sum)) ≡ complement n z
+  unsigned-is = let s = sum-is in rw (toZ-ofZ w64 sum sum-fits, s .0)

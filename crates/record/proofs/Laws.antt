@@ -1,0 +1,141 @@
+-- Laws of lists of blocks, each said once, and of the tests that they are made of.
+use Prim.Native.Nat.{ℕ, _+_, _<_, _≤_}
+use mathlib.Core.Path.{_≡_, refl, ap, sym}
+use mathlib.Core.List.{List, [], _∷_, _++_, append-nil}
+use mathlib.Core.Bool.{Bool, true, false, not, _&&_, _||_, and-true, and-false, and-assoc, or-assoc, and-eq-true-iff}
+use native.Mathlib.Omega.{arith}
+use native.Mathlib.Numerals.{add-one}
+use borrow.Author.Tests.{ne-eqb, eq-eqb, eqb-true}
+use lib.Dec.{eqb}
+use lib.ListN.{length, getD, take, drop, length-map, List·getD-map}
+use lib.Seq.{take-suc, drop-cons, slice-cons, append-snoc}
+use Rattle.bits.specs.Bits.{bit}
+use Rattle.record.specs.declared.Block.{Block}
+use Rattle.record.specs.declared.Block.the-variants.{Nothing, Level1, Level2, Level5}
+use Rattle.record.specs.declared.Record.{Record}
+use Rattle.record.specs.Level.{level, reserved, levelOf}
+use Rattle.record.specs.Valid.{nowhere, blockIn, allBlocks, every, many, targets, among, different, newTarget, fine, mayFollow, wellFormed}
+
+-- ---- tests
+
+-- two tests that pass together are one
+pub same-test : (a b : Bool) → (a ≡ true → b ≡ true) → (b ≡ true → a ≡ true) → a ≡ b
+same-test true b f g = sym (f refl)
+same-test false true f g = g refl
+same-test false false f g = refl
+
+pub and-left : (a b : Bool) → a && b ≡ true → a ≡ true
+and-left a b h = and-eq-true-iff a b .0 h .0
+
+pub and-right : (a b : Bool) → a && b ≡ true → b ≡ true
+and-right a b h = and-eq-true-iff a b .0 h .1
+
+pub and-both : (a b : Bool) → a ≡ true → b ≡ true → a && b ≡ true
+and-both a b h k = rw (h, k)
+
+-- what a row of tests says, and what proves it
+pub ruleset tests = (and-left, and-right, and-both)
+
+pub not-or : (a b : Bool) → not (a || b) ≡ not a && not b
+not-or true b = refl
+not-or false b = refl
+
+pub eqb-turned : (x y : ℕ) → eqb x y ≡ eqb y x
+eqb-turned x y =
+    same-test (eqb x y) (eqb y x)
+    (λ h. eq-eqb y x (sym (eqb-true x y h)))
+    (λ h. eq-eqb x y (sym (eqb-true y x h)))
+
+-- ---- levels
+
+-- a number that is no level of ours is reserved
+pub no-level : (l : ℕ) → (l ≡ 1 → ⊥) → (l ≡ 2 → ⊥) → (l ≡ 5 → ⊥) → level l ≡ reserved
+no-level l f g h = rw (ne-eqb l 1 f, ne-eqb l 2 g, ne-eqb l 5 h)
+
+-- ---- one list behind another
+
+targets-append : (xs ys : List Block) → targets (xs ++ ys) ≡ targets xs ++ targets ys
+unfolding targets
+targets-append [] ys = refl
+targets-append (Nothing ∷ xs) ys = targets-append xs ys
+targets-append (Level1 min max avg ∷ xs) ys = targets-append xs ys
+targets-append (Level2 t s o p c g m ∷ xs) ys = ap (λ (ts : List ℕ). t ∷ ts) (targets-append xs ys)
+targets-append (Level5 l r t b ∷ xs) ys = targets-append xs ys
+
+among-append : (x : ℕ) (ys zs : List ℕ) → among x (ys ++ zs) ≡ among x ys || among x zs
+unfolding among
+among-append x [] zs = refl
+among-append x (y ∷ ys) zs = rw (among-append x ys zs, or-assoc)
+
+pub new-target-append : (xs ys : List Block) (b : Block) → newTarget (xs ++ ys) b ≡ newTarget xs b && newTarget ys b
+new-target-append xs ys Nothing = refl
+new-target-append xs ys (Level1 min max avg) = refl
+new-target-append xs ys (Level2 t s o p c g m) = rw (targets-append xs ys, among-append, not-or)
+new-target-append xs ys (Level5 l r t b) = refl
+
+-- where no level 2 block stands before it, each block's target is new
+pub new-target-none : (before : List Block) (b : Block) → targets before ≡ [] → newTarget before b ≡ true
+unfolding among
+new-target-none before Nothing h = refl
+new-target-none before (Level1 min max avg) h = refl
+new-target-none before (Level2 t s o p c g m) h = rw h
+new-target-none before (Level5 l r t b) h = refl
+
+pub well-formed-append : (before xs ys : List Block) → wellFormed before (xs ++ ys) ≡ wellFormed before xs && wellFormed (before ++ xs) ys
+unfolding wellFormed
+well-formed-append before [] ys = rw append-nil
+well-formed-append before (x ∷ xs) ys = simp (well-formed-append (before ++ (x ∷ [])) xs ys, append-snoc, and-assoc)
+
+-- ---- one block more
+
+pub every-more : (test : Block → Bool) (bs : List Block) (b : Block) → every test (bs ++ (b ∷ [])) ≡ every test bs && test b
+unfolding every
+every-more test [] b = and-true (test b)
+every-more test (x ∷ bs) b = rw (every-more test bs b, and-assoc)
+
+pub many-more : (l : ℕ) (bs : List Block) (b : Block) → many l (bs ++ (b ∷ [])) ≡ many l bs + bit (eqb (levelOf b) l)
+unfolding many
+many-more l [] b = omega arith
+many-more l (x ∷ bs) b = omega (arith, many-more l bs b)
+
+-- the tests of `different-more`, in its order
+shuffle : (p q d r : Bool) → not (p || (q || false)) && (d && not r) ≡ not p && d && not (q || r)
+shuffle true q d r = refl
+shuffle false true d r = sym (and-false d)
+shuffle false false d r = refl
+
+different-more : (xs : List ℕ) (x : ℕ) → different (xs ++ (x ∷ [])) ≡ different xs && not (among x xs)
+unfolding different among
+different-more [] x = refl
+different-more (y ∷ ys) x = rw (among-append y ys (x ∷ []), different-more ys x, eqb-turned y x, shuffle)
+
+pub targets-more : (bs : List Block) (b : Block) → different (targets (bs ++ (b ∷ []))) ≡ different (targets bs) && newTarget bs b
+unfolding targets
+targets-more bs Nothing = rw (targets-append bs (Nothing ∷ []), append-nil, and-true)
+targets-more bs (Level1 min max avg) = rw (targets-append bs (Level1 min max avg ∷ []), append-nil, and-true)
+targets-more bs (Level2 t s o p c g m) = rw (targets-append bs (Level2 t s o p c g m ∷ []), different-more)
+targets-more bs (Level5 l r t b) = rw (targets-append bs (Level5 l r t b ∷ []), append-nil, and-true)
+
+-- ---- the blocks of a record, place by place
+
+abbrev pub blockAt : Record → ℕ → Block
+blockAt r j = blockIn (getD (r .places) j nowhere)
+
+module _ (r : Record) (j : ℕ) (h : j < length (r .places)) where
+  inside : j < length (allBlocks r)
+  inside = rw (length-map (r .places) blockIn) h
+
+  pub take-more : take (j + 1) (allBlocks r) ≡ take j (allBlocks r) ++ (blockAt r j ∷ [])
+  take-more = rw (add-one j, take-suc (allBlocks r) j Nothing inside, List·getD-map blockIn (r .places) j nowhere)
+
+  pub drop-more : drop j (allBlocks r) ≡ blockAt r j ∷ drop (j + 1) (allBlocks r)
+  drop-more = rw (add-one j, drop-cons (allBlocks r) j Nothing inside, List·getD-map blockIn (r .places) j nowhere)
+
+-- the walk over the first n blocks of a record, at block j
+pub walk-more : (r : Record) (j n : ℕ) → j < n → n ≤ length (r .places)
+    → wellFormed (take j (allBlocks r)) (drop j (take n (allBlocks r)))
+    ≡ fine (blockAt r j) && mayFollow (take j (allBlocks r)) (blockAt r j) && wellFormed (take (j + 1) (allBlocks r)) (drop (j + 1) (take n (allBlocks r)))
+unfolding wellFormed
+walk-more r j n h k =
+    let k′ : n ≤ length (allBlocks r) = rw (length-map (r .places) blockIn) k in
+    rw (take-more r j (omega arith), slice-cons j n (allBlocks r) Nothing h k′, List·getD-map blockIn (r .places) j nowhere, add-one j)

@@ -1,0 +1,4 @@
+pub mod Name
+pub mod Level
+pub mod Valid
+pub mod Made

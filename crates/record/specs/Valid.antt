@@ -1,0 +1,128 @@
+-- When a record is valid, clause by clause (01, The record; The data, bit by bit).
+use Prim.Native.Nat.{ℕ, _+_, _<_, _≤_}
+use mathlib.Core.Path.{_≡_}
+use mathlib.Core.List.{List, [], _∷_, _++_, map}
+use mathlib.Core.Bool.{Bool, true, false, not, _&&_, _||_}
+use lib.Dec.{leb, ltb, eqb}
+use lib.ListN.{length, take, drop, set, replicate}
+use Rattle.bits.specs.Bits.{bit}
+use Rattle.bits.specs.Coding.{holdAll}
+use Rattle.record.specs.declared.Block.{Block}
+use Rattle.record.specs.declared.Block.the-variants.{Nothing, Level1, Level2, Level5}
+use Rattle.record.specs.declared.Place.{Place}
+use Rattle.record.specs.declared.Record.{Record}
+use Rattle.record.specs.Level.{level, codings, levelOf, valuesOf}
+
+-- ours: at most 18 blocks in all
+abbrev pub mostBlocks : ℕ
+mostBlocks = 18
+
+abbrev pub nowhere : Place
+nowhere = record { block = Nothing }
+
+-- a record with the flag and no block; the empty record has flag 0
+abbrev pub noBlocks : Bool → Record
+noBlocks flag = record { refresh = flag; count = 0; places = replicate mostBlocks nowhere }
+
+abbrev pub emptyRecord : Record
+emptyRecord = noBlocks false
+
+abbrev pub blockIn : Place → Block
+blockIn p = p .block
+
+abbrev pub allBlocks : Record → List Block
+allBlocks r = map blockIn (r .places)
+
+-- the blocks of a record, in their order in the payload
+abbrev pub blocks : Record → List Block
+blocks r = take (r .count) (allBlocks r)
+
+-- what lies in the places behind them
+abbrev pub beyond : Record → List Block
+beyond r = drop (r .count) (allBlocks r)
+
+unfoldable pub every : (Block → Bool) → List Block → Bool
+every test [] = true
+every test (b ∷ bs) = test b && every test bs
+
+abbrev pub isNothing : Block → Bool
+isNothing b = eqb (levelOf b) 0
+
+abbrev pub isBlock : Block → Bool
+isBlock b = not (isNothing b)
+
+-- each field holds a number that its width holds
+abbrev pub inRange : Block → Bool
+inRange b = holdAll (codings (levelOf b)) (valuesOf b)
+
+-- ours: in level 1, min ≤ avg ≤ max, equality allowed
+abbrev pub inOrder : Block → Bool
+inOrder Nothing = true
+inOrder (Level1 min max avg) = leb min avg && leb avg max
+inOrder (Level2 t s o p c g m) = true
+inOrder (Level5 l r t b) = true
+
+-- how many blocks are of level l
+unfoldable pub many : ℕ → List Block → ℕ
+many l [] = 0
+many l (b ∷ bs) = bit (eqb (levelOf b) l) + many l bs
+
+-- the target_max_PQ values of the level 2 blocks
+unfoldable pub targets : List Block → List ℕ
+targets [] = []
+targets (Nothing ∷ bs) = targets bs
+targets (Level1 min max avg ∷ bs) = targets bs
+targets (Level2 t s o p c g m ∷ bs) = t ∷ targets bs
+targets (Level5 l r t b ∷ bs) = targets bs
+
+unfoldable pub among : ℕ → List ℕ → Bool
+among x [] = false
+among x (y ∷ ys) = eqb x y || among x ys
+
+-- no number twice
+unfoldable pub different : List ℕ → Bool
+different [] = true
+different (x ∷ xs) = not (among x xs) && different xs
+
+-- the clauses of a valid record
+pub record Valid (r : Record) : Type 0 where
+  pub few : r .count ≤ mostBlocks
+  pub filled : every isBlock (blocks r) ≡ true
+  pub empty : every isNothing (beyond r) ≡ true
+  pub flag : r .refresh ≡ false → r .count ≡ 0
+  pub ranges : every inRange (blocks r) ≡ true
+  pub order : every inOrder (blocks r) ≡ true
+  pub levels : (l : ℕ) → many l (blocks r) ≤ level l .most
+  pub targetsDiffer : different (targets (blocks r)) ≡ true
+
+-- the same, decided
+unfoldable pub valid : Record → Bool
+valid r =
+    leb (r .count) mostBlocks && every isBlock (blocks r) && every isNothing (beyond r) && (r .refresh || eqb (r .count) 0)
+    && every inRange (blocks r) && every inOrder (blocks r)
+    && leb (many 1 (blocks r)) (level 1 .most) && leb (many 2 (blocks r)) (level 2 .most) && leb (many 5 (blocks r)) (level 5 .most)
+    && different (targets (blocks r))
+
+-- a block that no level 2 block before it has the target_max_PQ of
+abbrev pub newTarget : List Block → Block → Bool
+newTarget before Nothing = true
+newTarget before (Level1 min max avg) = true
+newTarget before (Level2 t s o p c g m) = not (among t (targets before))
+newTarget before (Level5 l r t b) = true
+
+-- a block that may stand behind those before it: none of the repeats that refusal 11 names
+unfoldable pub mayFollow : List Block → Block → Bool
+mayFollow before b = ltb (many (levelOf b) before) (level (levelOf b) .most) && newTarget before b
+
+-- a block that meets the clauses for one block
+abbrev pub fine : Block → Bool
+fine b = isBlock b && inRange b && inOrder b
+
+-- blocks behind those before them, of which each is fine and may follow
+unfoldable pub wellFormed : List Block → List Block → Bool
+wellFormed before [] = true
+wellFormed before (b ∷ bs) = fine b && mayFollow before b && wellFormed (before ++ (b ∷ [])) bs
+
+-- the record with b as its next block
+abbrev pub withBlock : Record → Block → Record
+withBlock r b = record { refresh = r .refresh; count = r .count + 1; places = set (r .places) (r .count) (record { block = b }) }
