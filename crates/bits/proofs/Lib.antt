@@ -5,3 +5,4 @@ pub mod Codes
 pub mod Elements
 pub mod Takes
 pub mod OneAnswer
+pub mod Refuses

@@ -6,7 +6,8 @@ use mathlib.Core.Bool.{Bool, true, false, cond}
 use lib.Dec.{ltb}
 use lib.ListN.{length, drop, replicate}
 use Rattle.bits.specs.Bits.{code}
-use Rattle.bits.specs.Reading.{Out, ok, Reader}
+use Rattle.bits.specs.declared.Refusal.{Refusal}
+use Rattle.bits.specs.Reading.{Out, ok, no, Reader}
 
 -- p takes exactly the codes e of the values that Fit: each, whatever follows it, and from nothing else
 pub record Codes {A : Type 0} (p : Reader A) (e : A → List Bool) (Fit : A → Type 0) : Type 0 where
@@ -16,6 +17,10 @@ pub record Codes {A : Type 0} (p : Reader A) (e : A → List Bool) (Fit : A → 
 -- p takes at most k bits, and no more than there are
 abbrev pub Takes : {A : Type 0} → ℕ → Reader A → Type 0
 Takes {A} k p = (s : List Bool) (v : A) (n : ℕ) → p s ≡ ok v n → (n ≤ k) × (n ≤ length s)
+
+-- p refuses only as R allows
+abbrev pub Refuses : {A : Type 0} → (Refusal → Type 0) → Reader A → Type 0
+Refuses R p = (s : List Bool) (r : Refusal) → p s ≡ no r → R r
 
 -- how often x can be halved until it is 1, within f times
 unfoldable pub halvings : ℕ → ℕ → ℕ

@@ -75,8 +75,8 @@ stored-bit out pen b h e l =
     }
 
 -- one writing behind another
-pub wrote-then : (o₀ o₁ o₂ : List ℕ) (p₀ p₁ p₂ : Pen) (bs cs : List Bool) → Wrote o₀ p₀ bs o₁ p₁ → Wrote o₁ p₁ cs o₂ p₂ → Wrote o₀ p₀ (bs ++ cs) o₂ p₂
-wrote-then o₀ o₁ o₂ p₀ p₁ p₂ bs cs p q = record {
+pub wrote-then : {o₀ o₁ o₂ : List ℕ} {p₀ p₁ p₂ : Pen} {bs cs : List Bool} → Wrote o₀ p₀ bs o₁ p₁ → Wrote o₁ p₁ cs o₂ p₂ → Wrote o₀ p₀ (bs ++ cs) o₂ p₂
+wrote-then {o₀} {o₁} {o₂} {p₀} {p₁} {p₂} {bs} {cs} p q = record {
   more = q .more ∙ rw (p .more) (append-assoc (written o₀ p₀) bs cs);
   sound = q .sound;
   later = q .later ∙ deep;
@@ -103,8 +103,8 @@ wrote-none out pen s = record {
 }
 
 -- room for what follows is left
-pub room-left : (o₀ o₁ : List ℕ) (p₀ p₁ : Pen) (bs : List Bool) (n : ℕ) → Wrote o₀ p₀ bs o₁ p₁ → Room o₀ p₀ (length bs + n) → Room o₁ p₁ n
-room-left o₀ o₁ p₀ p₁ bs n p r = omega (arith, p .place, p .same)
+pub room-left : {o₀ o₁ : List ℕ} {p₀ p₁ : Pen} {bs : List Bool} → Wrote o₀ p₀ bs o₁ p₁ → (n : ℕ) → Room o₀ p₀ (length bs + n) → Room o₁ p₁ n
+room-left p n r = omega (arith, p .place, p .same)
 
 -- u(n), bit by bit: k bits are written, of v without its last n - k bits
 code-next : (n k v : ℕ) → k < n → code (k + 1) (v / 2 ^ (n - (k + 1))) ≡ code k (v / 2 ^ (n - k)) ++ (odd (v / 2 ^ (n - 1 - k) % 2) ∷ [])
@@ -117,10 +117,10 @@ code-next n k v h =
 
 module _ (o₀ o₁ : List ℕ) (p₀ p₁ : Pen) (n k v : ℕ) (so-far : Wrote o₀ p₀ (code k (v / 2 ^ (n - k))) o₁ p₁) where
   pub next-bit : (o₂ : List ℕ) (p₂ : Pen) → k < n → Wrote o₁ p₁ (odd (v / 2 ^ (n - 1 - k) % 2) ∷ []) o₂ p₂ → Wrote o₀ p₀ (code (k + 1) (v / 2 ^ (n - (k + 1)))) o₂ p₂
-  next-bit o₂ p₂ h q = rw (code-next n k v h) (wrote-then o₀ o₁ o₂ p₀ p₁ p₂ (code k (v / 2 ^ (n - k))) (odd (v / 2 ^ (n - 1 - k) % 2) ∷ []) so-far q)
+  next-bit o₂ p₂ h q = rw (code-next n k v h) (wrote-then so-far q)
 
   pub next-room : k < n → Room o₀ p₀ n → Room o₁ p₁ 1
-  next-room h r = room-left o₀ o₁ p₀ p₁ (code k (v / 2 ^ (n - k))) 1 so-far (omega (arith, length-code k (v / 2 ^ (n - k))))
+  next-room h r = room-left so-far 1 (omega (arith, length-code k (v / 2 ^ (n - k))))
 
   pub all-bits : k ≡ n → Wrote o₀ p₀ (code n v) o₁ p₁
   all-bits e =
@@ -176,7 +176,7 @@ same-parts a b c d l e = (
   sym (drop-at a b (length a) refl) ∙ ap (drop (length a)) e ∙ drop-at c d (length a) (sym l),
 )
 
-bytes-take : (n : ℕ) (s : List ℕ) → Bytes s → Bytes (take n s)
+pub bytes-take : (n : ℕ) (s : List ℕ) → Bytes s → Bytes (take n s)
 bytes-take zero s h = tt
 bytes-take (suc n) [] h = tt
 bytes-take (suc n) (b ∷ s) h = (h .0, bytes-take n s (h .1))

@@ -40,7 +40,7 @@ put-u-requires c κs =
     let l = length-ue (s .args .v) in
     let p = c .before .before .before .put-zeros in (
       p .ensures .sound,
-      room-left (s .args .out .now) (p .last .0) (s .args .pen) (p .result) (replicate (z .result) false) (z .result + 1) (p .ensures) (omega (arith, s .pre .1, length-replicate (z .result) false)),
+      room-left (p .ensures) (z .result + 1) (omega (arith, s .pre .1, length-replicate (z .result) false)),
       omega (arith, zeros-few 31 (s .args .v) (s .pre .2)),
     )
 
@@ -54,7 +54,7 @@ returns c =
     let p = c .before .before .before .before .before .before .put-zeros in
     let q = c .before .before .put-u in
     rw (ue-whole (a .v), ← k)
-    (wrote-then (a .out .now) (p .last .0) (q .last .0) (a .pen) (p .result) (q .result) _ _ (p .ensures) (q .ensures))
+    (wrote-then (p .ensures) (q .ensures))
 
 pub put-ue-spec : {M : Type 1} → statement M
 put-ue-spec =

@@ -1,0 +1,55 @@
+-- `block::read_body` meets its contract: the level is checked, then the length.
+use mathlib.Core.Path.{_∙_}
+use lib.ListN.{drop}
+use Rattle.bits.specs.Bits.{bitsOf}
+use Rattle.block.proofs.Laws.{body-unknown, body-length, body-is}
+use borrow.Author.Needs.{needs}
+use Rattle.block.proofs.read_body.Statement.{statement}
+use Rattle.block.proofs.read_body.Tie as tie
+
+is-known-requires : tie.Need-is-known-requires
+is-known-requires c κs = search needs
+
+bytes-of-requires : tie.Need-bytes-of-requires
+bytes-of-requires c κs = search needs
+
+cast-bytes : tie.Need-cast-bytes
+cast-bytes c = search needs
+
+read-content-requires : tie.Need-read-content-requires
+read-content-requires c κs = search needs
+
+refuse-requires : tie.Need-refuse-requires
+refuse-requires c κs = search needs
+
+refuse-requires-2 : tie.Need-refuse-requires-2
+refuse-requires-2 c κs = search needs
+
+returns : tie.Need-returns
+returns c =
+    let a = c .before .before .before .before .before .before .args in
+    c .read-content .ensures ∙ body-is (a .length) (a .level) (drop (a .at) (bitsOf (a .s .now))) (cc) (cc)
+
+returns-2 : tie.Need-returns-2
+returns-2 c =
+    let a = c .before .before .before .before .before .before .args in
+    c .refuse .ensures ∙ body-length (a .length) (a .level) (drop (a .at) (bitsOf (a .s .now))) (cc) (λ e. c .before .if2 .left (cc))
+
+returns-3 : tie.Need-returns-3
+returns-3 c =
+    let a = c .before .before .before .before .before .args in
+    c .refuse2 .ensures ∙ body-unknown (a .length) (a .level) (drop (a .at) (bitsOf (a .s .now))) (cc)
+
+pub read-body-spec : {M : Type 1} → statement M
+read-body-spec =
+    tie.close
+    (tie.spec
+    is-known-requires
+    bytes-of-requires
+    cast-bytes
+    read-content-requires
+    refuse-requires
+    refuse-requires-2
+    returns
+    returns-2
+    returns-3)

@@ -1,0 +1,16 @@
+-- `reader::zeros_behind` meets its contract.
+use borrow.Author.Needs.{needs}
+use Rattle.reader.proofs.zeros_behind.Statement.{statement}
+use Rattle.reader.proofs.zeros_behind.Tie as tie
+
+sub-result : tie.Need-sub-result
+sub-result c = search needs
+
+returns : tie.Need-returns
+returns c = rw (c .if1 .taken)
+
+returns-2 : tie.Need-returns-2
+returns-2 c = search needs
+
+pub zeros-behind-spec : {M : Type 1} → statement M
+zeros-behind-spec = tie.close (tie.spec sub-result returns returns-2)

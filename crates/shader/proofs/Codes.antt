@@ -1,0 +1,74 @@
+-- The division is exact at each of the 8,192 codes: a test that is computed at each, and the law that it says.
+use Prim.Native.Nat.{ℕ, zero, suc, _*_, _<_}
+use mathlib.Core.Path.{_≡_, refl, sym, subst}
+use mathlib.Core.Bool.{Bool, true, false, not, _&&_, Bool·beq}
+use mathlib.Core.Logic.{⊎-elim}
+use native.Mathlib.Nat.{le-of-suc-le-suc, not-suc-le-zero, eq-or-lt-of-le}
+use lib.Dec.{T, eqb, eqb→eq}
+use lib.IntN.{ℤ, pos, negsuc, natAbs}
+use lib.Signed.{mag, nonNeg}
+use lib.Ieee.{Float, nan, inf, fin, binary32, toBits, ofBits, div, ofInt, up, down}
+use Rattle.shader.specs.Shader.{singleBits}
+
+both-left : (a b : Bool) → T (a && b) → T a
+both-left true b t = tt
+both-left false b t = t
+
+both-right : (a b : Bool) → T (a && b) → T b
+both-right true b t = t
+both-right false b t = absurd t
+
+abbrev below : (ℕ → Bool) → ℕ → Bool
+below test zero = true
+below test (suc n) = test n && below test n
+
+at : (test : ℕ → Bool) (n : ℕ) → T (below test n) → (k : ℕ) → k < n → T (test k)
+at test zero t k h = absurd (not-suc-le-zero h)
+at test (suc n) t k h =
+    ⊎-elim
+    (λ e. subst (λ (m : ℕ). T (test m)) (sym e) (both-left (test n) (below test n) t))
+    (λ l. at test n (both-right (test n) (below test n) t) k l)
+    (eq-or-lt-of-le (le-of-suc-le-suc h))
+
+-- what the code computes: the number as a float, divided by 4,096.0
+abbrev pub quotient : ℤ → Float
+quotient z = div binary32 (ofInt binary32 z) (ofBits binary32 0x4580_0000)
+
+bits-right : ℤ → Bool
+bits-right z = eqb (toBits binary32 (quotient z)) (singleBits z)
+
+plus : T (below (λ (n : ℕ). bits-right (pos n)) 4096)
+unfolding bits-right toBits div ofInt ofBits singleBits
+plus = tt
+
+minus : T (below (λ (n : ℕ). bits-right (negsuc n)) 4096)
+unfolding bits-right toBits div ofInt ofBits singleBits
+minus = tt
+
+pub quotient-bits : (z : ℤ) → mag z < 4096 → toBits binary32 (quotient z) ≡ singleBits z
+unfolding bits-right
+quotient-bits (pos k) h = eqb→eq (toBits binary32 (quotient (pos k))) (singleBits (pos k)) (at (λ (n : ℕ). bits-right (pos n)) 4096 plus k h)
+quotient-bits (negsuc k) h = eqb→eq (toBits binary32 (quotient (negsuc k))) (singleBits (negsuc k)) (at (λ (n : ℕ). bits-right (negsuc n)) 4096 minus k h)
+
+-- the float x is exactly z / 4,096: its sign is z's, and its m × 2^e times 4,096 is z's magnitude
+abbrev pub isExactly : ℤ → Float → Bool
+isExactly z nan = false
+isExactly z (inf s) = false
+isExactly z (fin s m e) = Bool·beq s (not (nonNeg z)) && eqb (m * up e * 4096) (natAbs z * down e)
+
+exact-right : ℤ → Bool
+exact-right z = isExactly z (ofBits binary32 (singleBits z))
+
+exact-plus : T (below (λ (n : ℕ). exact-right (pos n)) 4096)
+unfolding exact-right ofBits singleBits
+exact-plus = tt
+
+exact-minus : T (below (λ (n : ℕ). exact-right (negsuc n)) 4096)
+unfolding exact-right ofBits singleBits
+exact-minus = tt
+
+-- nothing is rounded: the number with those bits is exactly code / 4,096
+pub singles-are-exact : (z : ℤ) → mag z < 4096 → T (isExactly z (ofBits binary32 (singleBits z)))
+unfolding exact-right
+singles-are-exact (pos k) h = at (λ (n : ℕ). exact-right (pos n)) 4096 exact-plus k h
+singles-are-exact (negsuc k) h = at (λ (n : ℕ). exact-right (negsuc n)) 4096 exact-minus k h

@@ -1,0 +1,17 @@
+-- A record with the largest payload: one level 1 block, sixteen of level 2 and one of level 5.
+use Prim.Native.Nat.{ℕ, zero, suc}
+use mathlib.Core.List.{List, [], _∷_, _++_}
+use mathlib.Core.Bool.{true}
+use lib.IntN.{negsuc}
+use Rattle.record.specs.declared.Block.{Block}
+use Rattle.record.specs.declared.Block.the-variants.{Level1, Level2, Level5}
+use Rattle.record.specs.declared.Record.{Record}
+use Rattle.record.specs.Made.{recordOf}
+
+-- n level 2 blocks with the targets below n
+unfoldable pub trims : ℕ → List Block
+trims zero = []
+trims (suc n) = Level2 n 2048 2048 2048 2048 2048 (negsuc 0) ∷ trims n
+
+unfoldable pub largest : Record
+largest = recordOf true (Level1 0 4095 2048 ∷ (trims 16 ++ (Level5 0 0 276 276 ∷ [])))

@@ -1,0 +1,3 @@
+pub mod Element
+pub mod Data
+pub mod Largest

@@ -1,0 +1,60 @@
+-- `wrapper::check_wrapper` meets its contract: the answer from byte i on is the answer from the start.
+use Prim.Native.Nat.{_≤_, _<_, _-_, _+_}
+use mathlib.Core.Path.{_≡_, refl, sym, ap, _∙_}
+use native.Mathlib.Omega.{arith}
+use lib.ListN.{length, drop, getD}
+use Rattle.wrapper.specs.Wrapper.{wrapperBytes, behind, wrapperOf}
+use Rattle.wrapper.proofs.Laws.{missing, differs, agrees}
+use Rattle.wrapper.proofs.check_wrapper.Statement.{statement}
+use Rattle.wrapper.proofs.check_wrapper.Tie as tie
+
+abbrev Inv-loop : tie.InvT-loop
+Inv-loop input i₀ i = (i ≤ 8) × (behind (drop i wrapperBytes) (drop i input) ≡ behind wrapperBytes input)
+
+abbrev μ-loop : tie.MeasureT-loop
+μ-loop input i₀ i = 8 - i
+
+loop-holds : tie.Need-loop-holds Inv-loop μ-loop
+loop-holds c = (omega arith, refl)
+
+returns : tie.Need-returns Inv-loop μ-loop
+returns c =
+    let l = c .before .before .loop in
+    sym (ap wrapperOf (sym (l .inv .1) ∙ missing (c .before .before .before .before .args .input .now) (l .i) (omega arith) (omega arith)))
+
+shared-slice-read-if2 : tie.Need-shared-slice-read-if2 Inv-loop μ-loop
+shared-slice-read-if2 c = omega arith
+
+wrapper-byte-requires : tie.Need-wrapper-byte-requires Inv-loop μ-loop
+wrapper-byte-requires c κs = omega arith
+
+returns-2 : tie.Need-returns-2 Inv-loop μ-loop
+returns-2 c =
+    let l = c .before .before .before .before .before .loop in
+    let s = c .before .before .before .before .before .before .before .args .input .now in
+    let d = differs s (l .i) (omega arith) (omega arith) (λ e. c .if2 .taken (e ∙ sym (c .before .wrapper-byte .ensures))) in
+    sym (ap wrapperOf (sym (l .inv .1) ∙ d))
+
+add-i : tie.Need-add-i Inv-loop μ-loop
+add-i c = omega arith
+
+loop-less : tie.Need-loop-less Inv-loop μ-loop
+loop-less c = omega arith
+
+loop-again : tie.Need-loop-again Inv-loop μ-loop
+loop-again c =
+    let l = c .before .before .before .before .before .loop in
+    let s = c .before .before .before .before .before .before .before .args .input .now in
+    (omega arith, sym (agrees s (l .i) (omega arith) (omega arith) (c .if2 .left ∙ c .before .wrapper-byte .ensures)) ∙ l .inv .1)
+
+returns-3 : tie.Need-returns-3 Inv-loop μ-loop
+unfolding behind
+returns-3 c =
+    let l = c .before .loop in
+    let e : l .i ≡ 8 = omega arith in
+    ap wrapperOf (rw e at (l .inv .1))
+
+pub check-wrapper-spec : {M : Type 1} → statement M
+check-wrapper-spec =
+    tie.close
+    (tie.spec Inv-loop μ-loop loop-holds returns shared-slice-read-if2 wrapper-byte-requires returns-2 add-i loop-less loop-again returns-3)
