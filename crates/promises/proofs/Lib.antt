@@ -1,3 +1,5 @@
 pub mod Reading
 pub mod Writing
 pub mod Starred
+pub mod TrackLaws
+pub mod Tracks

@@ -203,10 +203,6 @@ few-head s h n e = let x = aligned-first someBlocks (appIdentifier s) s h n e in
 
 -- ---- zero bits to the next byte boundary
 
-pub boundary-few : (b : Bool) (n : ℕ) → cond b (toBoundary n) 0 ≤ 7
-boundary-few true n = omega arith
-boundary-few false n = omega arith
-
 module _ {A : Type 0} (test : A → Bool) (o : Out A) (s : List Bool) where
   pub aligned-no : (r : Refusal) → o ≡ no r → aligned test o s ≡ no r
   aligned-no r e = rw e

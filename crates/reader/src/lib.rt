@@ -184,7 +184,7 @@ fn read_identifier(s: &[u8]) -> Opening
 
 // How many bits are missing from n bits to the next byte boundary, if the test says that zero bits stand there.
 fn zeros_behind(test: bool, n: usize) -> usize
-    ensures { λ r. ⌜ r ≡ cond test (toBoundary n) 0 ⌝ }
+    ensures { λ r. ⌜ (r ≡ cond test (toBoundary n) 0) × (r ≤ 7) ⌝ }
 {
     if test { (8 - n % 8) % 8 } else { 0 }
 }
@@ -315,9 +315,10 @@ pub fn read_data(input: &[u8]) -> Reading
                 record: empty,
             };
         }
+        let bits = data.width as u32;
         Reading {
             result: 0,
-            bits: data.width as u32,
+            bits,
             record,
         }
     } else {

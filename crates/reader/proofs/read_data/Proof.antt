@@ -29,8 +29,8 @@ returns c =
     let x = d .before .before .read-whole-bytes .result in
     rw (d .empty .ensures) (data-remains (bitsOf input) (x .«record») (x .width) (whole d (c .before .before .if1 .taken)) (λ z. omega (arith, length-rest input (x .width))))
 
-cast-t11 : tie.Need-cast-t11
-cast-t11 c =
+cast-bits : tie.Need-cast-bits
+cast-bits c =
     let d = c .before .before .before .before in
     let x = d .before .before .read-whole-bytes .result in
     omega (arith, takes-whole (bitsOf (d .before .before .before .before .args .input .now)) (x .«record») (x .width) (whole d (c .before .before .before .if1 .taken)))
@@ -52,4 +52,4 @@ returns-3 c =
 pub read-data-spec : {M : Type 1} → statement M
 read-data-spec =
     tie.close
-    (tie.spec read-whole-bytes-requires empty-requires returns cast-t11 returns-2 returns-3)
+    (tie.spec read-whole-bytes-requires empty-requires returns cast-bits returns-2 returns-3)

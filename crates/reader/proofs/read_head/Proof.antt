@@ -1,8 +1,7 @@
 -- `reader::read_head` meets its contract: zero bits to the boundary, if there are blocks.
 use mathlib.Core.Path.{_≡_, sym, ap}
-use mathlib.Core.Bool.{not, cond}
+use mathlib.Core.Bool.{cond}
 use native.Mathlib.Omega.{arith}
-use lib.Dec.{eqb}
 use lib.ListN.{drop}
 use Rattle.bits.specs.Bits.{bitsOf}
 use Rattle.bits.specs.Reading.{ok, zeros, toBoundary}
@@ -10,7 +9,7 @@ use Rattle.bits.proofs.Reading.{is-ok}
 use Rattle.bits.proofs.Takes.{takes-zeros}
 use Rattle.syntax.specs.Data.{Head, appIdentifier, someBlocks}
 use Rattle.reader.specs.Reading.{openingOf}
-use Rattle.reader.proofs.Laws.{opening-ok, opening-no, aligned-no, aligned-later, aligned-ok, boundary-few, takes-identifier}
+use Rattle.reader.proofs.Laws.{opening-ok, opening-no, aligned-no, aligned-later, aligned-ok, takes-identifier}
 use borrow.Author.Needs.{needs}
 use Rattle.reader.proofs.read_head.Statement.{statement}
 use Rattle.reader.proofs.read_head.Tie as tie
@@ -38,7 +37,7 @@ zeros-behind-requires : tie.Need-zeros-behind-requires
 zeros-behind-requires c κs = search needs
 
 read-zeros-requires : tie.Need-read-zeros-requires
-read-zeros-requires c κs = omega (arith, c .zeros-behind .ensures, boundary-few (not (eqb (c .before .before .refresh .given .0 .1 .0) 0)) (c .before .before .refresh .given .0 .1 .1 .0))
+read-zeros-requires c κs = search needs
 
 enum-known-why-2 : tie.Need-enum-known-why-2
 enum-known-why-2 c = search needs
@@ -55,7 +54,7 @@ add-t14 c =
     let k = cond (someBlocks (opening d)) (toBoundary n) 0 in
     let z = c .before .width .given .0 .0 in
     let m = c .before .width .given .0 .1 .0 in
-    omega (arith, takes-identifier B (opening d) n (first d), takes-zeros k (drop n B) z m (is-ok (zeros k (drop n B)) z m (cc)), boundary-few (someBlocks (opening d)) n)
+    omega (arith, takes-identifier B (opening d) n (first d), takes-zeros k (drop n B) z m (is-ok (zeros k (drop n B)) z m (cc)), c .before .before .before .before .zeros-behind .ensures)
 
 returns : tie.Need-returns
 returns c =

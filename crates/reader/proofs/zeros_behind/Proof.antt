@@ -1,4 +1,5 @@
 -- `reader::zeros_behind` meets its contract.
+use native.Mathlib.Omega.{arith}
 use borrow.Author.Needs.{needs}
 use Rattle.reader.proofs.zeros_behind.Statement.{statement}
 use Rattle.reader.proofs.zeros_behind.Tie as tie
@@ -7,7 +8,7 @@ sub-result : tie.Need-sub-result
 sub-result c = search needs
 
 returns : tie.Need-returns
-returns c = rw (c .if1 .taken)
+returns c = (rw (c .if1 .taken), omega arith)
 
 returns-2 : tie.Need-returns-2
 returns-2 c = search needs

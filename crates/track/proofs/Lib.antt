@@ -1,0 +1,10 @@
+pub mod Size
+pub mod Within
+pub mod Filled
+pub mod Natural
+pub mod Tracks
+pub mod Together
+pub mod Looking
+pub mod Says
+pub mod Written
+pub mod OneAnswer
