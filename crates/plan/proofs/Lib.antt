@@ -1,3 +1,4 @@
 pub mod Merging
 pub mod Chosen
 pub mod Reaching
+pub mod OneAnswer
