@@ -165,7 +165,7 @@ ends J A B l i j k m h =
     take-drop (suc n) [] = refl
     take-drop (suc n) (v ∷ u) = ap (λ (w : List ℕ). v ∷ w) (take-drop n u)
 
--- ---- as `merge` has it: by the counts, and by the places that `place` gives
+-- ---- as `merge` has it: by the counts, and by the places that `clamp` gives
 pub tags-length : (c : ℕ) (l : List ℤ) → length (tagsFrom c l) ≡ length l
 tags-length c [] = refl
 tags-length c (z ∷ zs) = ap suc (tags-length (suc c) zs)

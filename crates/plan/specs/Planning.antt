@@ -14,7 +14,7 @@ use Rattle.plan.specs.Pictures.{Before, order, pictures}
 
 -- ---- sources: below `mostPoints` an entry of the first table, below `neither` one of the second, and else neither
 abbrev pub neither : ℕ
-neither = 128
+neither = mostPoints + mostPoints
 
 -- the first table's entry that a source names, or its first
 abbrev pub leftOf : ℕ → ℕ
@@ -73,8 +73,11 @@ nextBy x y (more _) = next y 0 1
 abbrev pub nextOf : Bool → Tag → Bool → Tag → Next
 nextOf p x q y = cond q (cond p (nextBy x y (order (numberOf x) (numberOf y))) (next y 0 1)) (next x 1 0)
 
+abbrev pub takenOff : ℕ → ℕ → ℕ → Turn
+takenOff source left right = record { source = source; left = left; right = right }
+
 abbrev pub turnOf : Next → Turn
-turnOf n = record { source = n .tag .source; left = n .left; right = n .right }
+turnOf n = takenOff (n .tag .source) (n .left) (n .right)
 
 abbrev pub clamped : ℕ → ℕ
 clamped i = cond (ltb i mostPoints) i (mostPoints - 1)

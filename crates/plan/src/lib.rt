@@ -5,7 +5,7 @@ ghost use Prim.Native.Nat.{_+_, _<_, _≤_};
 ghost use lib.ListN.{take};
 ghost use Rattle.plan.specs.Limit.{mostPoints};
 ghost use Rattle.plan.specs.Scanning.{extentOf, begun, risesAt, noted};
-ghost use Rattle.plan.specs.Planning.{tag, RisingTags, firstTags, secondTags, nextOf, turnOf, clamped, refusal, layoutOf, mergedSources, planOf, boundOf, sourceAt, leftOf, rightOf};
+ghost use Rattle.plan.specs.Planning.{tag, RisingTags, firstTags, secondTags, takenOff, nextOf, turnOf, clamped, refusal, layoutOf, mergedSources, planOf, boundOf, sourceAt, leftOf, rightOf};
 ghost use Rattle.plan.specs.Seeking.{reachOf, seekOf};
 
 // A table has exactly this many entries, so a track has no more points.
@@ -13,9 +13,9 @@ pub const POINTS: usize = 64;
 
 // A result's entry comes from the first table's entry s, for s below SECOND; from the second's entry s - SECOND, for s
 // below NEITHER; and else from neither.
-pub const SECOND: u8 = 64;
+pub const SECOND: u8 = POINTS as u8;
 
-pub const NEITHER: u8 = 128;
+pub const NEITHER: u8 = 2 * SECOND;
 
 // The limit, as the definitions have it.
 pub fn most_points() -> usize
@@ -28,7 +28,7 @@ pub fn most_points() -> usize
 pub struct Scanned {
     pub track: bool,
     pub last: i32,
-    pub pictures: [i32; 64],
+    pub pictures: [i32; POINTS],
 }
 
 // How many entries are looked at: none where the table or the count is no track's.
@@ -47,7 +47,7 @@ pub fn begin(length: usize, count: usize) -> Scanned
     Scanned {
         track: (length == POINTS) & (count <= POINTS),
         last: 0,
-        pictures: [0; 64],
+        pictures: [0; POINTS],
     }
 }
 
@@ -76,7 +76,7 @@ pub fn note(seen: Scanned, index: usize, picture: i32, usable: bool) -> Scanned
 pub struct Layout {
     pub result: u8,
     pub count: usize,
-    pub sources: [u8; 64],
+    pub sources: [u8; POINTS],
 }
 
 // A refusal fills no entry.
@@ -120,8 +120,18 @@ pub struct Turn {
     pub right: usize,
 }
 
-// Of the first track's next number, which is there where `more` says so, and the second's, the lesser; the second's
-// where they are equal, and then both are done with.
+fn take_off(source: u8, left: usize, right: usize) -> Turn
+    ensures { λ r. ⌜ r ≡ takenOff source left right ⌝ }
+{
+    Turn {
+        source,
+        left,
+        right,
+    }
+}
+
+// Of the first track's next number, which is there where `more` says so, and the second's, which is there where
+// `further` says so, the lesser; the second's where they are equal, and then both are done with.
 pub fn choose(more: bool, e: usize, x: i32, further: bool, f: usize, y: i32) -> Turn
     requires { ⌜ (e < mostPoints) × (f < mostPoints) ⌝ }
     ensures { λ r. ⌜ r ≡ turnOf (nextOf more (tag e x) further (tag (mostPoints + f) y)) ⌝ }
@@ -130,38 +140,18 @@ pub fn choose(more: bool, e: usize, x: i32, further: bool, f: usize, y: i32) -> 
     let place = f as u8;
     let second = SECOND + place;
     if !further {
-        return Turn {
-            source: first,
-            left: 1,
-            right: 0,
-        };
+        return take_off(first, 1, 0);
     }
     if !more {
-        return Turn {
-            source: second,
-            left: 0,
-            right: 1,
-        };
+        return take_off(second, 0, 1);
     }
     if x < y {
-        return Turn {
-            source: first,
-            left: 1,
-            right: 0,
-        };
+        return take_off(first, 1, 0);
     }
     if y < x {
-        return Turn {
-            source: second,
-            left: 0,
-            right: 1,
-        };
+        return take_off(second, 0, 1);
     }
-    Turn {
-        source: second,
-        left: 1,
-        right: 1,
-    }
+    take_off(second, 1, 1)
 }
 
 // A place that is there, whatever the index.
@@ -177,16 +167,16 @@ pub fn refused(number: u8) -> Layout
     Layout {
         result: number,
         count: 0,
-        sources: [NEITHER; 64],
+        sources: [NEITHER; POINTS],
     }
 }
 
 // Every number of either, in rising order. A 65th is refused: counts are never added.
-pub fn merge(a: [i32; 64], n: usize, b: [i32; 64], m: usize) -> Layout
+pub fn merge(a: [i32; POINTS], n: usize, b: [i32; POINTS], m: usize) -> Layout
     requires { ⌜ (n ≤ mostPoints) × (m ≤ mostPoints) × RisingTags (firstTags n a) × RisingTags (secondTags m b) ⌝ }
     ensures { λ r. ⌜ r ≡ layoutOf (mergedSources a n b m) ⌝ }
 {
-    let mut out: [u8; 64] = [NEITHER; 64];
+    let mut out: [u8; POINTS] = [NEITHER; POINTS];
     let mut i: usize = 0;
     let mut j: usize = 0;
     let mut k: usize = 0;
@@ -231,7 +221,7 @@ pub fn decide(s: Scanned, n: usize, t: Scanned, m: usize, length: usize) -> Layo
 }
 
 // How many of the first n numbers, which rise, are not above the picture.
-pub fn reach(pictures: [i32; 64], n: usize, picture: i32) -> usize
+pub fn reach(pictures: [i32; POINTS], n: usize, picture: i32) -> usize
     requires { ⌜ n ≤ mostPoints ⌝ }
     ensures { λ r. ⌜ r ≡ reachOf picture (take n pictures) ⌝ }
 {

@@ -2,7 +2,7 @@
 use Prim.Native.Nat.{ℕ, _+_, _≤_, _<_}
 use mathlib.Core.Path.{_≡_, refl, ap, sym, subst, _∙_}
 use mathlib.Core.List.{List, [], _∷_, _++_, map}
-use mathlib.Core.Bool.{Bool, true, false, cond}
+use mathlib.Core.Bool.{Bool, true, false, cond, _&&_}
 use native.Mathlib.Omega.{arith}
 use borrow.Author.Tests.{eqb-true, eq-eqb, ne-eqb, leb-true, le-leb, leb-false, lt-leb}
 use lib.Dec.{T, eqb, leb}
@@ -20,7 +20,7 @@ use Rattle.plan.specs.Pictures.{Before, order, pictures, before-irreflexive, be
 use Rattle.track.specs.declared.Point.{Point}
 use Rattle.track.specs.declared.Joined.{Joined}
 use Rattle.track.specs.declared.InForce.{InForce}
-use Rattle.track.specs.Track.{number, padded, allStand, pointsOf, isTrack, joinPoints, RisingPoints, AgreePoints, pointInForce, noneInForce, shown, pointAtNumber, joinRefusal, joinedAt, placeOf, placeRefusal, placeAnswer, placeTable}
+use Rattle.track.specs.Track.{number, padded, allStand, rise, pointsOf, isTrack, joinPoints, RisingPoints, AgreePoints, pointInForce, noneInForce, shown, pointAtNumber, joinRefusal, joinedAt, placeOf, placeRefusal, placeAnswer, placeTable}
 use Rattle.promises.specs.Joins.{Table, table, Valid, points, at, numberIn, startAt, isLater, answer, joined, inTurn, leftFirst, rightFirst, EqualWhereShared}
 use Rattle.promises.proofs.TrackLaws.{parts, in-order, made-track, points-padded, as-many-as-counted, Done, done-means, joined-is, joined-points, join-stands, outcome, answer-is, held-number}
 
@@ -48,6 +48,45 @@ a-refused-join-changes-nothing a b result h =
 pub a-refused-placing-changes-nothing : (r : Record) (p : ℤ) (old : List Point) → (placeAnswer r p (length old) .result ≡ 0 → ⊥)
     → (placeTable old r p ≡ old) × (placeAnswer r p (length old) .count ≡ 0)
 a-refused-placing-changes-nothing r p old h = refused-at (placeRefusal r (length old)) (padded (placeOf r p)) old (length (placeOf r p)) h
+
+-- ---- what lies past the count is ignored, whatever it is
+
+-- two tables of one length, with one count and the same points
+pub record Alike (s t : Table) : Type 0 where
+  pub length-same : length (s .entries) ≡ length (t .entries)
+  pub count-same : s .count ≡ t .count
+  pub points-same : points s ≡ points t
+
+tracked : ℕ → ℕ → List Point → Bool
+tracked entries count l = eqb entries mostPoints && leb count mostPoints && (rise l && allStand l)
+
+one-track : (s t : Table) → Alike s t → isTrack (s .entries) (s .count) ≡ isTrack (t .entries) (t .count)
+unfolding tracked
+one-track s t e =
+    ap (λ (n : ℕ). tracked n (s .count) (points s)) (e .length-same) ∙ ap (λ (n : ℕ). tracked (length (t .entries)) n (points s)) (e .count-same)
+    ∙ ap (tracked (length (t .entries)) (t .count)) (e .points-same)
+
+pub a-lookup-ignores-what-lies-past : (s t : Table) (p : ℤ) → Alike s t → at s p ≡ at t p
+a-lookup-ignores-what-lies-past s t p e =
+    ap (λ (b : Bool). cond b (shown (pointInForce p (points s))) (noneInForce 16)) (one-track s t e)
+    ∙ ap (λ (l : List Point). cond (isTrack (t .entries) (t .count)) (shown (pointInForce p l)) (noneInForce 16)) (e .points-same)
+
+pub a-join-ignores-what-lies-past : (a b s t : Table) (result : List Point) → Alike a s → Alike b t → (answer a b result ≡ answer s t result) × (joined a b result ≡ joined s t result)
+a-join-ignores-what-lies-past a b s t result e f =
+    let l : joinPoints (points a) (points b) ≡ joinPoints (points s) (points t) =
+    ap (λ (k : List Point). joinPoints k (points b)) (e .points-same) ∙ ap (joinPoints (points s)) (f .points-same) in
+    let number-of : Bool → Bool → List Point → ℕ = (λ p q k. cond p (cond q (cond (eqb (length result) mostPoints) (cond (leb (length k) mostPoints) 0 15) 13) 16) 16) in
+    let made : Bool → Bool → List Point → Table = (λ p q k. table (cond (eqb (number-of p q k) 0) (padded k) result) (joinedAt (number-of p q k) k .count)) in
+    let told : Bool → Bool → List Point → Joined = (λ p q k. joinedAt (number-of p q k) k) in
+    let u = one-track a s e in
+    let v = one-track b t f in
+    let ta : Bool = isTrack (a .entries) (a .count) in
+    let tb : Bool = isTrack (b .entries) (b .count) in
+    let ts : Bool = isTrack (s .entries) (s .count) in
+    let tt′ : Bool = isTrack (t .entries) (t .count) in (
+      ap (λ (p : Bool). told p tb (joinPoints (points a) (points b))) u ∙ ap (λ (q : Bool). told ts q (joinPoints (points a) (points b))) v ∙ ap (told ts tt′) l,
+      ap (λ (p : Bool). made p tb (joinPoints (points a) (points b))) u ∙ ap (λ (q : Bool). made ts q (joinPoints (points a) (points b))) v ∙ ap (made ts tt′) l,
+    )
 
 -- ---- demand 3: what a join shows
 

@@ -1,3 +1,4 @@
+-- `plan::bound` meets its contract.
 use borrow.Author.Tests.{eq-eqb, ne-eqb}
 use Rattle.plan.proofs.bound.Statement.{statement}
 use Rattle.plan.proofs.bound.Tie as tie

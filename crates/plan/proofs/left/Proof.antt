@@ -1,3 +1,4 @@
+-- `plan::left` meets its contract.
 use native.Mathlib.Omega.{arith}
 use borrow.Author.Tests.{lt-ltb, le-ltb}
 use Rattle.plan.proofs.left.Statement.{statement}

@@ -1,3 +1,4 @@
+-- `plan::merge` meets its contract.
 use mathlib.Core.Path.{_≡_, refl, sym, _∙_, ap, subst}
 use mathlib.Core.List.{List, map}
 use Prim.Native.Nat.{ℕ, _≤_, _<_, _+_, _-_}
@@ -18,8 +19,6 @@ use Rattle.plan.specs.Planning.{Tag, tag, sourceOf, firstTags, secondTag
 use Rattle.plan.proofs.Merging.{Merging, Comes, begins, turns, too-long, ends, comes-at, tags-length}
 use Rattle.plan.proofs.merge.Statement.{statement}
 use Rattle.plan.proofs.merge.Tie as tie
-use Rattle.plan.proofs.merge.Reads as reads
-use Rattle.plan.proofs.merge.Lts as lts
 
 abbrev Inv-loop : tie.InvT-loop
 Inv-loop n m a b out₀ i₀ j₀ k₀ out i j k = Merging (mergedSources a n b m) (firstTags n a) (secondTags m b) out i j k

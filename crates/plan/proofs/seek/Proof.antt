@@ -1,3 +1,4 @@
+-- `plan::seek` meets its contract.
 use mathlib.Core.Path.{_≡_, refl, sym, _∙_, ap}
 use mathlib.Core.Bool.{Bool, true, false, not, cond}
 use Prim.Native.Nat.{ℕ, _-_}
@@ -12,8 +13,6 @@ use Rattle.plan.specs.declared.Found.{Found}
 use Rattle.plan.specs.Seeking.{reachOf, foundAt}
 use Rattle.plan.proofs.seek.Statement.{statement}
 use Rattle.plan.proofs.seek.Tie as tie
-use Rattle.plan.proofs.seek.Reads as reads
-use Rattle.plan.proofs.seek.Lts as lts
 
 is-false : (b : Bool) → not b ≡ true → b ≡ false
 is-false true e = sym e
