@@ -1,26 +1,25 @@
 -- What the promises on tracks rest on: what it is to be a track, and what a join that is done has made.
 use Prim.Native.Nat.{ℕ, _≤_}
-use mathlib.Core.Path.{_≡_, refl, ap, sym, subst, _∙_}
+use mathlib.Core.Path.{_≡_, refl, ap, sym, _∙_}
 use mathlib.Core.List.{List, [], _∷_}
-use mathlib.Core.Bool.{Bool, true, false, cond, _&&_}
+use mathlib.Core.Bool.{Bool, true, false, cond}
 use native.Mathlib.Omega.{arith}
-use borrow.Author.Tests.{eqb-true, eq-eqb, leb-true, le-leb}
-use lib.Dec.{T, eqb, leb}
+use borrow.Author.Tests.{eqb-true, eq-eqb, leb-true}
+use lib.Dec.{eqb, leb}
 use lib.IntN.{ℤ}
-use lib.Signed.{ltZ}
 use lib.ListN.{length, drop, replicate, length-append, length-drop, length-replicate}
 use lib.Seq.{take-at, length-take-le}
 use Rattle.record.proofs.Laws.{and-left, and-right, and-both}
-use Rattle.keyed.specs.Keyed.{Option, some, Compared, less, same, more, heldAtBy, Above, join}
-use Rattle.keyed.proofs.Laws.{above-trans, some-one, some-none}
+use Rattle.keyed.specs.Keyed.{Option, some, Compared, less, same, more, heldAtBy, join}
+use Rattle.keyed.proofs.Laws.{some-one, some-none}
 use Rattle.keyed.proofs.Mapped.{All, join-all}
 use Rattle.plan.specs.Limit.{mostPoints}
 use Rattle.plan.specs.Pictures.{Before, order, pictures}
 use Rattle.track.specs.declared.Point.{Point}
 use Rattle.track.specs.declared.Joined.{Joined}
-use Rattle.track.specs.Track.{number, cleared, padded, mayStand, allStand, riseAfter, rise, pointsOf, isTrack, joinPoints, RisingPoints, pointAtNumber, joinRefusal, joinedAt}
+use Rattle.track.specs.Track.{number, cleared, padded, mayStand, allStand, rise, pointsOf, isTrack, joinPoints, RisingPoints, pointAtNumber, joinRefusal, joinedAt}
 use Rattle.track.proofs.Tracks.{Is-track, is-track, track-is, rise-rising, rising-rise}
-use Rattle.promises.specs.Joins.{Table, table, Valid, points, answer, joined}
+use Rattle.promises.specs.Joins.{Table, table, Track, points, answer, joined}
 
 -- ---- every record may stand
 abbrev Stands : Point → Type 0
@@ -35,10 +34,10 @@ of-all [] h = refl
 of-all (x ∷ xs) h = and-both _ _ (h .0) (of-all xs (h .1))
 
 -- ---- a track, and a table that holds one
-pub parts : (t : Table) → Valid t → Is-track (t .entries) (t .count)
+pub parts : (t : Table) → Track t → Is-track (t .entries) (t .count)
 parts t v = is-track (t .entries) (t .count) v
 
-pub in-order : (t : Table) → Valid t → RisingPoints (points t)
+pub in-order : (t : Table) → Track t → RisingPoints (points t)
 in-order t v = rise-rising (points t) (parts t v .rises)
 
 pub points-padded : (l : List Point) → pointsOf (padded l) (length l) ≡ l
@@ -48,11 +47,11 @@ length-padded : (l : List Point) → length l ≤ mostPoints → length (padded 
 length-padded l h =
     omega (arith, length-append l (drop (length l) (replicate mostPoints cleared)), length-drop (length l) (replicate mostPoints cleared), length-replicate mostPoints cleared)
 
-pub made-track : (l : List Point) → length l ≤ mostPoints → RisingPoints l → allStand l ≡ true → Valid (table (padded l) (length l))
+pub made-track : (l : List Point) → length l ≤ mostPoints → RisingPoints l → allStand l ≡ true → Track (table (padded l) (length l))
 made-track l h r s =
     track-is (padded l) (length l) record { full = length-padded l h; few = h; rises = ap rise (points-padded l) ∙ rising-rise l r; stand = ap allStand (points-padded l) ∙ s }
 
-pub as-many-as-counted : (t : Table) → Valid t → length (points t) ≡ t .count
+pub as-many-as-counted : (t : Table) → Track t → length (points t) ≡ t .count
 as-many-as-counted t v = let p = parts t v in length-take-le (t .count) (t .entries) (let f = p .full in let g = p .few in omega arith)
 
 -- ---- a join that is done
@@ -64,8 +63,8 @@ done true false s t e = absurd (omega arith)
 done false q s t e = absurd (omega arith)
 
 pub record Done (a b : Table) (result : List Point) : Type 0 where
-  pub first : Valid a
-  pub second : Valid b
+  pub first : Track a
+  pub second : Track b
   pub sized : length result ≡ mostPoints
   pub within : length (joinPoints (points a) (points b)) ≤ mostPoints
 
@@ -100,7 +99,7 @@ answer-at true true false l ep eq es = let z : _≡_ {A = ℕ} 0 1 = cc in absur
 answer-at true false s l ep eq es = let z : _≡_ {A = ℕ} 0 1 = cc in absurd (omega arith)
 answer-at false q s l ep eq es = let z : _≡_ {A = ℕ} 0 1 = cc in absurd (omega arith)
 
-pub answer-is : (a b : Table) (result : List Point) → Valid a → Valid b → length result ≡ mostPoints → answer a b result ≡ outcome (joinPoints (points a) (points b))
+pub answer-is : (a b : Table) (result : List Point) → Track a → Track b → length result ≡ mostPoints → answer a b result ≡ outcome (joinPoints (points a) (points b))
 answer-is a b result va vb e = answer-at _ _ _ (joinPoints (points a) (points b)) va vb (eq-eqb (length result) mostPoints e)
 
 -- ---- the point held at a number has that number

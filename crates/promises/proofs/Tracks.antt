@@ -21,7 +21,7 @@ use Rattle.track.specs.declared.Point.{Point}
 use Rattle.track.specs.declared.Joined.{Joined}
 use Rattle.track.specs.declared.InForce.{InForce}
 use Rattle.track.specs.Track.{number, padded, allStand, rise, pointsOf, isTrack, joinPoints, RisingPoints, AgreePoints, pointInForce, noneInForce, shown, pointAtNumber, joinRefusal, joinedAt, placeOf, placeRefusal, placeAnswer, placeTable}
-use Rattle.promises.specs.Joins.{Table, table, Valid, points, at, numberIn, startAt, isLater, answer, joined, inTurn, leftFirst, rightFirst, EqualWhereShared}
+use Rattle.promises.specs.Joins.{Table, table, Track, points, at, numberIn, startAt, isLater, answer, joined, inTurn, leftFirst, rightFirst, EqualWhereShared}
 use Rattle.promises.proofs.TrackLaws.{parts, in-order, made-track, points-padded, as-many-as-counted, Done, done-means, joined-is, joined-points, join-stands, outcome, answer-is, held-number}
 
 -- ---- demand 1: every table and count gets an answer, and a refusal is empty
@@ -31,7 +31,7 @@ pub lookup-refuses-only-what-is-no-track : (t : Table) (p : ℤ) → isTrack (t 
 lookup-refuses-only-what-is-no-track t p e = ap (λ (b : Bool). cond b (shown (pointInForce p (points t))) (noneInForce 16)) e
 
 -- a lookup in a track shows the record in force, or nothing: "nothing" is `found` false, which no record has, one without blocks neither
-pub a-track-shows-what-is-in-force : (t : Table) (p : ℤ) → Valid t → at t p ≡ shown (pointInForce p (points t))
+pub a-track-shows-what-is-in-force : (t : Table) (p : ℤ) → Track t → at t p ≡ shown (pointInForce p (points t))
 a-track-shows-what-is-in-force t p v = ap (λ (b : Bool). cond b (shown (pointInForce p (points t))) (noneInForce 16)) v
 
 refused-at : (r : ℕ) (made old : List Point) (n : ℕ) → (r ≡ 0 → ⊥) → (cond (eqb r 0) made old ≡ old) × (cond (eqb r 0) n 0 ≡ 0)
@@ -91,12 +91,12 @@ a-join-ignores-what-lies-past a b s t result e f =
 -- ---- demand 3: what a join shows
 
 -- a join that is done makes a track
-pub a-join-is-a-track : (a b : Table) (result : List Point) → answer a b result .result ≡ 0 → Valid (joined a b result)
+pub a-join-is-a-track : (a b : Table) (result : List Point) → answer a b result .result ≡ 0 → Track (joined a b result)
 a-join-is-a-track a b result e =
     let d = done-means a b result e in
     let pa = parts a (d .first) in
     let pb = parts b (d .second) in
-    subst Valid (sym (joined-is a b result e))
+    subst Track (sym (joined-is a b result e))
     (made-track (joinPoints (points a) (points b)) (d .within) (join-rising pictures number (points a) (points b) (in-order a (d .first))) (join-stands (points a) (points b) (pa .stand) (pb .stand)))
 
 -- it holds every number of either track, with the second's point where both hold the number, and no other
@@ -142,7 +142,7 @@ a-join-shows-the-later-start a b result p e =
     ∙ ap (λ (r : InForce). cond (isLater (startAt a p) (startAt b p)) (at a p) r) (sym (a-track-shows-what-is-in-force b p (d .second)))
 
 -- a track that has not started shows nothing; so does a join of two such
-pub not-started-shows-nothing : (t : Table) (p : ℤ) → Valid t → startAt t p ≡ none → at t p ≡ noneInForce 0
+pub not-started-shows-nothing : (t : Table) (p : ℤ) → Track t → startAt t p ≡ none → at t p ≡ noneInForce 0
 not-started-shows-nothing t p v e = a-track-shows-what-is-in-force t p v ∙ go (pointInForce p (points t)) e
   where
     there : Option ℤ → Bool
@@ -162,7 +162,7 @@ nothing-is-no-record x e = let w : _≡_ {A = Bool} false true = ap (λ (r : InF
 abbrev pub numbersIn : Table → Table → ℕ
 numbersIn a b = different pictures (map number (points a) ++ map number (points b))
 
-pub a-join-of-tracks-is-done-or-15 : (a b : Table) (result : List Point) → Valid a → Valid b → length result ≡ mostPoints
+pub a-join-of-tracks-is-done-or-15 : (a b : Table) (result : List Point) → Track a → Track b → length result ≡ mostPoints
     → answer a b result .result ≡ cond (leb (numbersIn a b) mostPoints) 0 15
 a-join-of-tracks-is-done-or-15 a b result va vb e =
     ap (λ (j : Joined). j .result) (answer-is a b result va vb e)
@@ -172,11 +172,11 @@ fifteen : (b : Bool) → _≡_ {A = ℕ} (cond b 0 15) 15 → b ≡ false
 fifteen true e = absurd (omega arith)
 fifteen false e = refl
 
-pub fifteen-means-more-than-64 : (a b : Table) (result : List Point) → Valid a → Valid b → length result ≡ mostPoints → answer a b result .result ≡ 15 → mostPoints < numbersIn a b
+pub fifteen-means-more-than-64 : (a b : Table) (result : List Point) → Track a → Track b → length result ≡ mostPoints → answer a b result .result ≡ 15 → mostPoints < numbersIn a b
 fifteen-means-more-than-64 a b result va vb e h =
     leb-false (numbersIn a b) mostPoints (fifteen (leb (numbersIn a b) mostPoints) (sym (a-join-of-tracks-is-done-or-15 a b result va vb e) ∙ h))
 
-pub more-than-64-gives-fifteen : (a b : Table) (result : List Point) → Valid a → Valid b → length result ≡ mostPoints → mostPoints < numbersIn a b → answer a b result .result ≡ 15
+pub more-than-64-gives-fifteen : (a b : Table) (result : List Point) → Track a → Track b → length result ≡ mostPoints → mostPoints < numbersIn a b → answer a b result .result ≡ 15
 more-than-64-gives-fifteen a b result va vb e h =
     a-join-of-tracks-is-done-or-15 a b result va vb e ∙ ap (λ (c : Bool). cond c 0 15) (lt-leb (numbersIn a b) mostPoints h)
 
@@ -196,7 +196,7 @@ in-turn x y l big e h g =
     ap (λ (j : Joined). inTurn j y) e
     ∙ outcome-result (leb (length l) mostPoints) (leb (length big) mostPoints) l big refl refl h y (λ z. g (ap (λ (j : Joined). j .result) e ∙ z))
 
-module _ (a b c : Table) (va : Valid a) (vb : Valid b) (vc : Valid c) where
+module _ (a b c : Table) (va : Track a) (vb : Track b) (vc : Track c) where
   left-is : (s t : List Point) → length s ≡ mostPoints → length t ≡ mostPoints → leftFirst a b c s t ≡ outcome (joinPoints (joinPoints (points a) (points b)) (points c))
   left-is s t es et =
       in-turn (answer a b s) (answer (joined a b s) c t) (joinPoints (points a) (points b)) (joinPoints (joinPoints (points a) (points b)) (points c))
@@ -237,7 +237,7 @@ module _ (a b c : Table) (va : Valid a) (vb : Valid b) (vc : Valid c) where
 fits : (l : List Point) → length l ≤ mostPoints → outcome l ≡ record { result = 0; count = length l }
 fits l h = ap (λ (d : Bool). joinedAt (cond d 0 15) l) (le-leb (length l) mostPoints h)
 
-module _ (a e : Table) (result : List Point) (va : Valid a) (ve : Valid e) (none-there : e .count ≡ 0) (size : length result ≡ mostPoints) where
+module _ (a e : Table) (result : List Point) (va : Track a) (ve : Track e) (none-there : e .count ≡ 0) (size : length result ≡ mostPoints) where
   no-points : points e ≡ []
   no-points = ap (λ (n : ℕ). pointsOf (e .entries) n) none-there
 
@@ -317,8 +317,8 @@ module _ (r : Record) (p : ℤ) (old : List Point) (go : placeAnswer r p (length
   one-or-none false e = (omega arith, (tt, refl))
 
   -- a placing makes a valid track
-  pub a-placing-is-a-track : Valid (placed r p old)
-  a-placing-is-a-track = let x = one-or-none (r .refresh) refl in subst Valid (sym placed-is) (made-track (placeOf r p) (x .0) (x .1 .0) (x .1 .1))
+  pub a-placing-is-a-track : Track (placed r p old)
+  a-placing-is-a-track = let x = one-or-none (r .refresh) refl in subst Track (sym placed-is) (made-track (placeOf r p) (x .0) (x .1 .0) (x .1 .1))
 
   placed-shows : (q : ℤ) → at (placed r p old) q ≡ shown (pointInForce q (placeOf r p))
   placed-shows q =

@@ -21,8 +21,9 @@ pub record Table : Type 0 where
 abbrev pub table : List Point → ℕ → Table
 table entries count = record { entries = entries; count = count }
 
-abbrev pub Valid : Table → Type 0
-Valid t = isTrack (t .entries) (t .count) ≡ true
+-- the table and the count are a track
+abbrev pub Track : Table → Type 0
+Track t = isTrack (t .entries) (t .count) ≡ true
 
 -- its points: what lies past the count is ignored
 abbrev pub points : Table → List Point
