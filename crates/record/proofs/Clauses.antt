@@ -2,7 +2,7 @@
 use Prim.Native.Nat.{ℕ, zero, suc, _+_, _<_, _≤_}
 use mathlib.Core.Path.{_≡_, refl, ap, sym, _∙_}
 use mathlib.Core.List.{List, [], _∷_, _++_, map, append-nil}
-use mathlib.Core.Bool.{Bool, true, false, not, _&&_, _||_, and-true}
+use mathlib.Core.Bool.{Bool, true, false, not, _&&_, _||_, and-true, and-false}
 use native.Mathlib.Omega.{arith}
 use native.Mathlib.Nat.{add-zero}
 use native.Mathlib.Numerals.{add-one}
@@ -95,6 +95,17 @@ pub valid-is-walk : (r : Record)
     → valid r ≡ leb (r .count) mostBlocks && ((r .refresh || eqb (r .count) 0) && wellFormed [] (blocks r) && every isNothing (beyond r))
 unfolding valid
 valid-is-walk r = rw (walk-is-clauses (blocks r)) (same-test _ _ (λ h. search tests depth 12) (λ h. search tests depth 12))
+
+-- so a walk that fails decides, a block behind the count does, and where both pass the flag decides
+pub walk-fails : (r : Record) → false ≡ wellFormed [] (blocks r) → false ≡ valid r
+walk-fails r w = rw (valid-is-walk r, ← w, and-false (r .refresh || eqb (r .count) 0), and-false (leb (r .count) mostBlocks))
+
+pub rest-fails : (r : Record) → false ≡ every isNothing (beyond r) → false ≡ valid r
+rest-fails r e =
+    rw (valid-is-walk r, ← e, and-false ((r .refresh || eqb (r .count) 0) && wellFormed [] (blocks r)), and-false (leb (r .count) mostBlocks))
+
+pub flag-decides : (r : Record) → r .count ≤ mostBlocks → true ≡ wellFormed [] (blocks r) → true ≡ every isNothing (beyond r) → r .refresh || eqb (r .count) 0 ≡ valid r
+flag-decides r h w e = rw (valid-is-walk r, le-leb (r .count) mostBlocks h, ← w, ← e, and-true ((r .refresh || eqb (r .count) 0) && true), and-true (r .refresh || eqb (r .count) 0))
 
 -- the empty record is valid
 pub empty-is-valid : valid emptyRecord ≡ true

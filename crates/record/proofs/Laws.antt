@@ -73,6 +73,14 @@ new-target-append xs ys (Level1 min max avg) = refl
 new-target-append xs ys (Level2 t s o p c g m) = rw (targets-append xs ys, among-append, not-or)
 new-target-append xs ys (Level5 l r t b) = refl
 
+-- a block has room in its level, and in level 2 a new target, where none stands before it
+pub first-follows : (b : Block) → fine b ≡ true → mayFollow [] b ≡ true
+unfolding mayFollow many targets among
+first-follows Nothing h = h
+first-follows (Level1 min max avg) h = refl
+first-follows (Level2 t s o p c g m) h = refl
+first-follows (Level5 l r t b) h = refl
+
 -- where no level 2 block stands before it, each block's target is new
 pub new-target-none : (before : List Block) (b : Block) → targets before ≡ [] → newTarget before b ≡ true
 unfolding among

@@ -249,43 +249,7 @@ pub fn with_block(r: Record, b: Block) -> Record
     q
 }
 
-// Whether each of the first n blocks of r is fine and may stand behind those before it.
-fn blocks_valid(r: Record, n: u8) -> bool
-    requires { ⌜ n ≤ mostBlocks ⌝ }
-    ensures { λ x. ⌜ x ≡ wellFormed [] (take n (allBlocks r)) ⌝ }
-{
-    let mut j: u8 = 0;
-    while j < n {
-        let p = r.places[j as usize];
-        let b = p.block;
-        if (level_of(b) != 0) & in_range(b) & in_order(b) & may_follow(r, j, b) {
-            j += 1;
-        } else {
-            return false;
-        }
-    }
-    true
-}
-
-// Whether the places of r from n on hold nothing.
-fn rest_empty(r: Record, n: u8) -> bool
-    requires { ⌜ n ≤ mostBlocks ⌝ }
-    ensures { λ x. ⌜ x ≡ every isNothing (drop n (allBlocks r)) ⌝ }
-{
-    let mut j: u8 = n;
-    while j < Record::BLOCKS {
-        let p = r.places[j as usize];
-        let b = p.block;
-        if level_of(b) == 0 {
-            j += 1;
-        } else {
-            return false;
-        }
-    }
-    true
-}
-
-// Whether r is a valid record.
+// Whether r is a valid record: the walk over its blocks, then over the places behind them. It is one function, and `may_follow` is not asked for the first block, because each call with a record copies its places.
 pub fn is_valid(r: Record) -> bool
     ensures { λ x. ⌜ x ≡ valid r ⌝ }
 {
@@ -293,7 +257,35 @@ pub fn is_valid(r: Record) -> bool
     if Record::BLOCKS < n {
         return false;
     }
-    (r.refresh | (n == 0)) & blocks_valid(r, n) & rest_empty(r, n)
+    let mut j: u8 = 0;
+    while j < n {
+        let p = r.places[j as usize];
+        let b = p.block;
+        if (level_of(b) != 0) & in_range(b) & in_order(b) {
+            if j == 0 {
+                j += 1;
+            } else {
+                if may_follow(r, j, b) {
+                    j += 1;
+                } else {
+                    return false;
+                }
+            }
+        } else {
+            return false;
+        }
+    }
+    let mut k = j as usize;
+    while k < Record::BLOCKS as usize {
+        let p = r.places[k];
+        let b = p.block;
+        if level_of(b) == 0 {
+            k += 1;
+        } else {
+            return false;
+        }
+    }
+    r.refresh | (n == 0)
 }
 
 // The limit on blocks, as the definitions have it.
