@@ -7,7 +7,7 @@ use Prim.Native.Nat.{ℕ, zero, suc, _<_, _≤_}
 use native.Mathlib.Nat.{eq-or-lt-of-le, le-of-suc-le-suc, not-suc-le-zero}
 use native.Mathlib.Omega.{arith}
 use borrow.Author.Tests.{eqb-true}
-use lib.Dec.{T, eqb, eqb→eq}
+use lib.Dec.{T, eqb, ltb, eqb→eq}
 use lib.ListN.{length, getD, set, length-set, length-map}
 use lib.Seq.{ext-getD, getD-set-same, getD-set-other}
 use mir.Val.{Val}
@@ -15,8 +15,10 @@ use denote.Laws.{Is}
 use denote.Struct.Field.{u8-field}
 use Rattle.track.specs.declared.Point.{Point}
 use Rattle.plan.specs.declared.Layout.{Layout}
-use Rattle.plan.specs.Planning.{boundOf, sourceAt}
-use Rattle.track.specs.Working.{unfilled, setTo, chosenOf, filledTo}
+use Rattle.plan.specs.Limit.{mostPoints}
+use Rattle.plan.specs.Planning.{neither, boundOf, sourceAt, leftOf, rightOf}
+use Rattle.track.specs.Track.{cleared}
+use Rattle.track.specs.Working.{unfilled, pointAt, setTo, chosenOf, filledTo}
 use Rattle.plan.proofs.Layout as L
 
 pub set-to-length : (ys : List Point) (f : ℕ → Point) (i : ℕ) → length (setTo ys f i) ≡ length ys
@@ -51,6 +53,16 @@ set-to-by ys g cs false e f = refl
 
 pub fill-is : (ys a b : List Point) (l : Layout) → (l .result ≡ 0 → length ys ≡ 64) → length (l .sources) ≡ 64 → setTo ys (λ (k : ℕ). chosenOf a b (sourceAt l k)) (boundOf l) ≡ filledTo ys a b l
 fill-is ys a b l e f = set-to-by ys (chosenOf a b) (l .sources) (eqb (l .result) 0) (λ h. e (eqb-true (l .result) 0 h)) f
+
+-- ---- what a source names, by the two tests of it
+pub chosen-first : (a b : List Point) (source : ℕ) → ltb source mostPoints ≡ true → pointAt a (leftOf source) ≡ chosenOf a b source
+chosen-first a b source e = rw e
+
+pub chosen-second : (a b : List Point) (source : ℕ) → ltb source mostPoints ≡ false → ltb source neither ≡ true → pointAt b (rightOf source) ≡ chosenOf a b source
+chosen-second a b source e f = rw (e, f)
+
+pub chosen-neither : (a b : List Point) (source : ℕ) → ltb source mostPoints ≡ false → ltb source neither ≡ false → cleared ≡ chosenOf a b source
+chosen-neither a b source e f = rw (e, f)
 
 bound-by : (b : Bool) → cond b 64 0 ≤ 64
 bound-by true = omega arith

@@ -16,7 +16,7 @@ use Rattle.plan.specs.Pictures.{pictures}
 use Rattle.plan.specs.Planning.{leftOf, rightOf, Tag, tag, sourceOf, numberOf, tagsFrom, joinTags, RisingTags, noSources}
 use Rattle.track.specs.declared.Point.{Point}
 use Rattle.track.specs.Track.{cleared, number, joinPoints, RisingPoints, padded}
-use Rattle.track.specs.Working.{unfilled, pointAt, pickOf, chosenOf}
+use Rattle.track.specs.Working.{unfilled, pointAt, chosenOf}
 
 -- ---- a point, and where it stands
 record Sourced : Type 0 where

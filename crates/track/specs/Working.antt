@@ -45,12 +45,9 @@ setTo table f zero = table
 setTo table f (suc i) = set (setTo table f i) i (f i)
 
 -- ---- fill
-abbrev pub pickOf : ℕ → Point → Point → Point
-pickOf source x y = cond (ltb source mostPoints) x (cond (ltb source neither) y cleared)
-
 -- the point that a source names
 abbrev pub chosenOf : List Point → List Point → ℕ → Point
-chosenOf a b source = pickOf source (pointAt a (leftOf source)) (pointAt b (rightOf source))
+chosenOf a b source = cond (ltb source mostPoints) (pointAt a (leftOf source)) (cond (ltb source neither) (pointAt b (rightOf source)) cleared)
 
 abbrev pub filledTo : List Point → List Point → List Point → Layout → List Point
 filledTo table a b l = cond (eqb (l .result) 0) (map (chosenOf a b) (l .sources)) table

@@ -10,7 +10,7 @@ ghost use Prim.Native.Nat.{_<_};
 ghost use lib.ListN.{length};
 ghost use Rattle.plan.specs.Limit.{mostPoints};
 ghost use Rattle.track.specs.Track.{cleared, mayStand, lookupAnswer, joinAnswer, joinTable, placeAnswer, placeTable};
-ghost use Rattle.track.specs.Working.{notedPoint, scanOf, pickOf, filledTo, answerOf, heldOf, missingOf, prepared, writeBound, entryOf, writtenTo, placeAnswerOf};
+ghost use Rattle.track.specs.Working.{notedPoint, scanOf, filledTo, answerOf, heldOf, missingOf, prepared, writeBound, entryOf, writtenTo, placeAnswerOf};
 
 // A picture number, in output order, and the record in force from there on.
 pub struct Point {
@@ -62,19 +62,6 @@ fn scan(table: &[Point], count: usize) -> Scanned
     seen
 }
 
-// The point that a source names, of the two entries that it may come from.
-fn pick(source: u8, x: Point, y: Point) -> Point
-    ensures { λ r. ⌜ r ≡ pickOf source x y ⌝ }
-{
-    if source < plan::SECOND {
-        return x;
-    }
-    if source < plan::NEITHER {
-        return y;
-    }
-    cleared_point()
-}
-
 // Writes each entry of the result, as the layout has it; none where it is a refusal.
 fn fill(result: &mut [Point], first: &[Point], second: &[Point], layout: Layout)
     requires { ⌜ (layout .result ≡ 0 → (length (now result) ≡ mostPoints) × (length (now first) ≡ mostPoints) × (length (now second) ≡ mostPoints)) ⌝ }
@@ -84,12 +71,15 @@ fn fill(result: &mut [Point], first: &[Point], second: &[Point], layout: Layout)
     let mut k = 0;
     while k < bound {
         let source = plan::source_at(layout, k);
-        let i = plan::left(source);
-        let j = plan::right(source);
-        let x = first[i];
-        let y = second[j];
-        let point = pick(source, x, y);
-        result[k] = point;
+        if source < plan::SECOND {
+            let i = plan::left(source);
+            result[k] = first[i];
+        } else if source < plan::NEITHER {
+            let j = plan::right(source);
+            result[k] = second[j];
+        } else {
+            result[k] = cleared_point();
+        }
         k += 1;
     }
 }
