@@ -1,11 +1,11 @@
 -- Demand 1 for reading, and the reading half of demand 2.
-use Prim.Native.Nat.{ℕ, zero, suc, _+_, _≤_}
+use Prim.Native.Nat.{ℕ, zero, suc, _+_}
 use mathlib.Core.Path.{_≡_, refl, ap, sym, _∙_}
 use mathlib.Core.List.{List, [], _∷_, _++_}
 use mathlib.Core.Bool.{Bool, true, false, _||_}
 use native.Mathlib.Omega.{arith}
 use lib.Dec.{eqb}
-use lib.ListN.{length, drop}
+use lib.ListN.{drop}
 use borrow.Author.Tests.{eqb-true, eq-eqb}
 use Rattle.bits.specs.declared.Refusal.{Refusal}
 use Rattle.bits.specs.Bits.{bitsOf, Bytes}
@@ -18,9 +18,8 @@ use Rattle.syntax.specs.Element.{payload, bitsOfData}
 use Rattle.syntax.specs.Data.{«ST2094-10_data», dataNumbers}
 use Rattle.syntax.proofs.Exact.{Proper, accepted-is-the-one-payload, the-payload-is-accepted}
 use Rattle.syntax.proofs.Refusals.{data-refuses}
-use Rattle.reader.specs.declared.Reading.{Reading}
 use Rattle.reader.specs.Reading.{readingOf}
-use Rattle.wrapper.specs.Wrapper.{wrapperBytes, wrapperDiffers, behind, wrappedData, wrappedPayload}
+use Rattle.wrapper.specs.Wrapper.{wrapperBytes, wrapperDiffers, behind, wrappedPayload}
 use Rattle.wrapper.proofs.Laws.{behind-is}
 use Rattle.promises.specs.Functions.{readBare, readWrapped}
 

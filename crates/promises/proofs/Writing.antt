@@ -2,7 +2,7 @@
 use Prim.Native.Nat.{ℕ, _+_, _<_, _≤_}
 use mathlib.Core.Path.{_≡_, refl, ap, sym, _∙_}
 use mathlib.Core.List.{List, _++_}
-use mathlib.Core.Bool.{Bool, true, false}
+use mathlib.Core.Bool.{true, false}
 use native.Mathlib.Omega.{arith}
 use lib.ListN.{length, take, drop}
 use lib.Seq.{take-at}
@@ -15,7 +15,7 @@ use Rattle.syntax.proofs.Exact.{Proper}
 use Rattle.syntax.proofs.Largest.{no-payload-is-longer, largest-length, largest-proper}
 use Rattle.writer.specs.declared.Written.{Written}
 use Rattle.writer.proofs.Answers.{written, done, short, bad}
-use Rattle.wrapper.specs.Wrapper.{wrapperBytes, wrappedPayload}
+use Rattle.wrapper.specs.Wrapper.{wrappedPayload}
 use Rattle.promises.specs.Functions.{readBare, readWrapped, writeBare, bareBuffer, writeWrapped, wrappedBuffer}
 use Rattle.promises.proofs.Reading.{accepted-means-the-one-payload, every-valid-record-is-read, accepted-wrapped-means-the-one-payload, every-valid-record-is-read-wrapped}
 

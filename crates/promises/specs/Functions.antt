@@ -10,6 +10,7 @@ use Rattle.reader.specs.Reading.{readingOf}
 use Rattle.writer.specs.declared.Written.{Written}
 use Rattle.writer.specs.Writing.{writtenOf, bufferAfter, writtenAs, bufferAs}
 use Rattle.wrapper.specs.Wrapper.{wrappedData, wrappedPayload}
+use Rattle.listing.specs.Listing.{listing, listable}
 
 -- reader::read_data and wrapper::read_wrapped
 abbrev pub readBare : List ℕ → Reading
@@ -30,3 +31,10 @@ writeWrapped r out = writtenAs (wrappedPayload r) (valid r) out
 
 abbrev pub wrappedBuffer : Record → List ℕ → List ℕ
 wrappedBuffer r out = bufferAs (wrappedPayload r) (valid r) out
+
+-- listing::write_listing
+abbrev pub writeListing : Reading → List ℕ → Written
+writeListing q out = writtenAs (listing q) (listable q) out
+
+abbrev pub listingBuffer : Reading → List ℕ → List ℕ
+listingBuffer q out = bufferAs (listing q) (listable q) out

@@ -1,0 +1,58 @@
+-- Laws of text typed into a buffer: a whole text, and one text behind another.
+use Prim.Native.Nat.{ℕ, suc, _+_, _-_, _<_, _≤_}
+use mathlib.Core.Path.{_≡_, refl, ap, sym, _∙_}
+use mathlib.Core.List.{List, [], _∷_, _++_, append-assoc}
+use native.Mathlib.Omega.{arith}
+use lib.ListN.{length, take, drop, set, length-append, take-append-drop}
+use lib.Seq.{take-length, set-comm, drop-drop, paste, take-paste, drop-paste, length-paste, sets, sets-eq}
+use Rattle.listing.specs.Typing.{Typed}
+
+-- a copied text
+pub typed-paste : (out s : List ℕ) (at : ℕ) → at + length s ≤ length out → Typed out at s (paste out at s (length s)) (at + length s)
+typed-paste out s at h = record {
+  more = take-paste out at s (length s) (omega arith) (omega arith) ∙ ap (λ (t : List ℕ). take at out ++ t) (take-length s);
+  later = drop-paste out at s (length s) (omega arith) (omega arith);
+  same = length-paste out at s (length s) h (omega arith);
+  place = refl;
+}
+
+-- a text that was stored byte by byte
+pub typed-sets : (out s : List ℕ) (at : ℕ) → at + length s ≤ length out → Typed out at s (sets out at s) (at + length s)
+typed-sets out s at h = rw (sets-eq s out at h, ← ap (λ (t : List ℕ). take at out ++ t ++ drop (at + length s) out) (take-length s)) (typed-paste out s at h)
+
+-- a byte stored before a run of bytes
+pub set-before : (s out : List ℕ) (i j b : ℕ) → j < i → set (sets out i s) j b ≡ sets (set out j b) i s
+set-before [] out i j b h = refl
+set-before (c ∷ s) out i j b h =
+    set-before s (set out i c) (suc i) j b (omega arith) ∙ ap (λ (o : List ℕ). sets o (suc i) s) (set-comm out i j c b (λ e. omega arith))
+
+-- one text behind another
+pub typed-then : {o₀ o₁ o₂ : List ℕ} {p₀ p₁ p₂ : ℕ} {s t : List ℕ} → Typed o₀ p₀ s o₁ p₁ → Typed o₁ p₁ t o₂ p₂ → Typed o₀ p₀ (s ++ t) o₂ p₂
+typed-then {o₀} {o₁} {o₂} {p₀} {p₁} {p₂} {s} {t} p q = record {
+  more = q .more ∙ rw (p .more) (append-assoc (take p₀ o₀) s t);
+  later = q .later ∙ deep;
+  same = q .same ∙ p .same;
+  place = omega (arith, p .place, q .place, length-append s t);
+}
+  where
+    e : p₁ + (p₂ - p₁) ≡ p₂
+    e = omega (arith, q .place)
+
+    deep : drop p₂ o₁ ≡ drop p₂ o₀
+    deep =
+        ap (λ (n : ℕ). drop n o₁) (sym e) ∙ sym (drop-drop (p₂ - p₁) p₁ o₁)
+        ∙ ap (λ (l : List ℕ). drop (p₂ - p₁) l) (p .later)
+        ∙ drop-drop (p₂ - p₁) p₁ o₀ ∙ ap (λ (n : ℕ). drop n o₀) e
+
+-- room for what follows is left
+pub room-left : {o₀ o₁ : List ℕ} {p₀ p₁ : ℕ} {s : List ℕ} → Typed o₀ p₀ s o₁ p₁ → (t : List ℕ) → p₀ + length (s ++ t) ≤ length o₀ → p₁ + length t ≤ length o₁
+room-left {s = s} p t h = omega (arith, p .place, p .same, length-append s t)
+
+pub room-first : (p n : ℕ) (s t : List ℕ) → p + length (s ++ t) ≤ n → p + length s ≤ n
+room-first p n s t h = omega (arith, h, length-append s t)
+
+-- a text typed from the start
+pub typed-whole : {out s out′ : List ℕ} {p : ℕ} → Typed out 0 s out′ p → (take p out′ ≡ s) × (p ≡ length s) × (out′ ≡ s ++ drop (length s) out)
+typed-whole {out} {s} {out′} {p} t =
+    let e : p ≡ length s = omega (arith, t .place) in
+    (t .more, e, sym (take-append-drop p out′) ∙ rw (t .more, t .later, e))

@@ -1,0 +1,87 @@
+-- What show prints: every input has its listing, and two accepted payloads have two.
+use Prim.Native.Nat.{ℕ, _<_, _≤_, _^_}
+use mathlib.Core.Path.{_≡_, refl, ap, sym, _∙_}
+use mathlib.Core.List.{List, [], _∷_, _++_}
+use mathlib.Core.Bool.{Bool, true, false, not, _||_}
+use native.Mathlib.Omega.{arith}
+use borrow.Author.Tests.{eqb-true, eqb-false}
+use lib.Dec.{eqb}
+use lib.ListN.{length, drop}
+use Rattle.bits.specs.declared.Refusal.{Refusal}
+use Rattle.bits.specs.Bits.{Bytes}
+use Rattle.bits.specs.Reading.{Out, ok, no, pastEnd}
+use Rattle.record.specs.Valid.{among, valid}
+use Rattle.syntax.specs.Data.{dataNumbers}
+use Rattle.syntax.proofs.Largest.{most-bits}
+use Rattle.reader.specs.declared.Reading.{Reading}
+use Rattle.writer.proofs.Answers.{written, done}
+use Rattle.wrapper.specs.Wrapper.{wrapperBytes, wrapperDiffers, behind, wrappedData, wrappedPayload}
+use Rattle.listing.specs.Listing.{listing, listable}
+use Rattle.listing.proofs.Longest.{most-bytes}
+use Rattle.listing.proofs.Different.{accepted-is-given, one-listing-one-reading}
+use Rattle.promises.specs.Functions.{readBare, readWrapped, writeListing, listingBuffer}
+use Rattle.promises.proofs.Reading.{bare-data-gets-a-listed-number, a-refusal-is-empty, accepted-wrapped-means-the-one-payload}
+
+-- two accepted payloads with one listing are the same bytes
+pub two-payloads-two-listings : (s t : List ℕ) → Bytes s → Bytes t → readWrapped s .result ≡ 0 → readWrapped t .result ≡ 0
+    → listing (readWrapped s) ≡ listing (readWrapped t) → s ≡ t
+two-payloads-two-listings s t hs ht es et e =
+    let a = accepted-wrapped-means-the-one-payload s hs es in
+    let b = accepted-wrapped-means-the-one-payload t ht et in
+    let q = one-listing-one-reading (readWrapped s) (readWrapped t) (accepted-is-given (readWrapped s) es (a .0)) (accepted-is-given (readWrapped t) et (b .0)) e in
+    a .1 ∙ ap (λ (r : Reading). wrappedPayload (r .«record»)) q ∙ sym (b .1)
+
+-- ---- every input has its listing
+
+among-bytes : (n : ℕ) (ns : List ℕ) → Bytes ns → among n ns ≡ true → n < 256
+unfolding among
+among-bytes n [] h e = let z : _≡_ {A = ℕ} 0 1 = cc in absurd (omega arith)
+among-bytes n (m ∷ ns) h e = go (eqb n m) refl (among-bytes n ns (h .1))
+  where
+    go : (t : Bool) → eqb n m ≡ t → (among n ns ≡ true → n < 256) → n < 256
+    go true f g = let x = eqb-true n m f in omega (arith, h .0)
+    go false f g = g (rw f at e)
+
+wrapper-number : (ws s : List ℕ) (r : Refusal) → behind ws s ≡ no r → r .number < 256
+unfolding behind
+wrapper-number [] s r e = let x : _≡_ {A = ℕ} 0 1 = cc in absurd (omega arith)
+wrapper-number (w ∷ ws) [] r e = let x : pastEnd ≡ r = cc in let y = ap (λ (q : Refusal). q .number) x in omega arith
+wrapper-number (w ∷ ws) (b ∷ s) r e = go (wrapper-number ws s r) (eqb b w) refl
+  where
+    go : (behind ws s ≡ no r → r .number < 256) → (c : Bool) → eqb b w ≡ c → r .number < 256
+    go further true q = further (rw q at e)
+    go further false q =
+        let f : _≡_ {A = Out (List ℕ)} (no wrapperDiffers) (no r) = rw q at e in
+        let x : wrapperDiffers ≡ r = cc in
+        let y = ap (λ (q : Refusal). q .number) x in omega arith
+
+-- a number is one byte
+one-byte : (s : List ℕ) → readWrapped s .result < 256
+one-byte s = go (behind wrapperBytes s) refl
+  where
+    small : Bytes (0 ∷ dataNumbers)
+    small = (omega arith, (omega arith, (omega arith, (omega arith, (omega arith, (omega arith, (omega arith, (omega arith, (omega arith, (omega arith, (omega arith, (omega arith, tt))))))))))))
+
+    go : (o : Out (List ℕ)) → behind wrapperBytes s ≡ o → readWrapped s .result < 256
+    go (ok t n) q = rw q (among-bytes (readBare t .result) (0 ∷ dataNumbers) small (bare-data-gets-a-listed-number t))
+    go (no r) q = rw q (wrapper-number wrapperBytes s r q)
+
+-- what is read can be listed, and its bits are few
+listable-bits : (s : List ℕ) → Bytes s → (listable (readWrapped s) ≡ true) × (readWrapped s .bits < 2 ^ 32)
+listable-bits s h = go (eqb (readWrapped s .result) 0) refl
+  where
+    go : (t : Bool) → eqb (readWrapped s .result) 0 ≡ t → (not t || valid (readWrapped s .«record») ≡ true) × (readWrapped s .bits < 2 ^ 32)
+    go true e =
+        let a = accepted-wrapped-means-the-one-payload s h (eqb-true (readWrapped s .result) 0 e) in
+        (a .0 .valid-record, omega (arith, a .2, most-bits (readWrapped s .«record») (a .0)))
+    go false e = (refl, omega (arith, a-refusal-is-empty (wrappedData s) (eqb-false (readWrapped s .result) 0 e) .1))
+
+-- 1,586 bytes have room for the listing of every input, and a write leaves what lies behind it
+pub room-of-1586-suffices : (s : List ℕ) → Bytes s → (out : List ℕ) → 1586 ≤ length out
+    → (writeListing (readWrapped s) out ≡ written 0 (length (listing (readWrapped s))))
+    × (listingBuffer (readWrapped s) out ≡ listing (readWrapped s) ++ drop (length (listing (readWrapped s))) out)
+room-of-1586-suffices s h out room =
+    let l = listable-bits s h in
+    let m = most-bytes (readWrapped s) (one-byte s) (l .1) (l .0) in
+    let d = done (listing (readWrapped s)) (listable (readWrapped s)) out (l .0) (omega (arith, m, room)) in
+    (sym (d .0), sym (d .1))

@@ -1,0 +1,69 @@
+-- `show::main` meets its contract: no read or write leaves its buffer.
+use borrow.Author.Needs.{needs}
+use Prim.Native.Nat.{_≤_}
+use mathlib.Core.Path.{sym}
+use lib.ListN.{length, replicate}
+use lib.Seq.{length-take-le}
+use Rattle.writer.proofs.Answers.{inside}
+use Rattle.listing.specs.Listing.{listing, listable}
+use Rattle.show.proofs.main.Statement.{statement}
+use Rattle.show.proofs.main.Tie as tie
+
+buffer-requires : tie.Need-buffer-requires
+buffer-requires c κs = search needs
+
+slice-aggregate-read-full : tie.Need-slice-aggregate-read-full
+slice-aggregate-read-full c = search needs
+
+read-full-requires : tie.Need-read-full-requires
+read-full-requires c κs = search needs
+
+array-share-prefix-input : tie.Need-array-share-prefix-input
+array-share-prefix-input c = search needs
+
+slice-aggregate-read-wrapped : tie.Need-slice-aggregate-read-wrapped
+slice-aggregate-read-wrapped c = search needs
+
+read-wrapped-requires : tie.Need-read-wrapped-requires
+read-wrapped-requires c κs = search needs
+
+slice-aggregate-write-listing : tie.Need-slice-aggregate-write-listing
+slice-aggregate-write-listing c = search needs
+
+write-listing-requires : tie.Need-write-listing-requires
+write-listing-requires c κs = search needs
+
+-- the listing lies in the text
+listed : (c : tie.After-write-listing) → c .write-listing .result .bytes ≤ length (c .write-listing .last .1 .0)
+listed c =
+    let q = c .before .before .read-wrapped .result in
+    rw (c .write-listing .ensures .0, c .write-listing .kept .1 .0) (inside (listing q) (listable q) (replicate 1586 0))
+
+array-share-prefix-text : tie.Need-array-share-prefix-text
+array-share-prefix-text c = listed (c .before)
+
+slice-aggregate-write-all : tie.Need-slice-aggregate-write-all
+slice-aggregate-write-all c = sym (length-take-le _ _ (listed (c .before .before)))
+
+write-all-requires : tie.Need-write-all-requires
+write-all-requires c κs = search needs
+
+returns : tie.Need-returns
+returns c = search needs
+
+pub main-spec : {M : Type 1} → statement M
+main-spec =
+    tie.close
+    (tie.spec
+    buffer-requires
+    slice-aggregate-read-full
+    read-full-requires
+    array-share-prefix-input
+    slice-aggregate-read-wrapped
+    read-wrapped-requires
+    slice-aggregate-write-listing
+    write-listing-requires
+    array-share-prefix-text
+    slice-aggregate-write-all
+    write-all-requires
+    returns)
