@@ -2,12 +2,13 @@
 use mathlib.Core.Path.{_≡_, refl, sym, _∙_, ap, subst}
 use mathlib.Core.Bool.{Bool, true, false, cond}
 use mathlib.Core.List.{List, [], _∷_, _++_, map}
+use mathlib.Core.Option.{Option, none, some}
 use Prim.Native.Nat.{ℕ, suc, _≤_}
 use native.Mathlib.Omega.{arith}
 use borrow.Author.Tests.{leb-true, le-leb}
 use lib.Dec.{leb}
 use lib.ListN.{length, length-map}
-use Rattle.keyed.specs.Keyed.{Option, none, some, orElse, andThen, Compared, less, same, more, Order, orSame, among, different, insertBy, insert, join, joinWithin, heldAtBy, heldAt, Above, Rising}
+use Rattle.keyed.specs.Keyed.{orElse, andThen, Compared, less, same, more, Order, orSame, among, different, insertBy, insert, join, joinWithin, heldAtBy, heldAt, Above, Rising}
 use Rattle.keyed.proofs.Laws.{join-rising, held-in-join, same-points, join-groups, held-above, held-insert, insert-rising, above-trans}
 use Rattle.keyed.proofs.Mapped.{join-map, rising-to}
 

@@ -2,7 +2,8 @@
 use mathlib.Core.Path.{_≡_, refl, sym, _∙_, ap, subst}
 use mathlib.Core.List.{List, [], _∷_}
 use mathlib.Core.Logic.{_⊎_, inl, inr, ⊎-elim}
-use Rattle.keyed.specs.Keyed.{Option, none, some, orElse, Compared, less, same, more, Order, insertBy, insert, join, heldAtBy, heldAt, Agree, Above, Rising, inForceBy, inForce, laterBy, later}
+use mathlib.Core.Option.{Option, none, some}
+use Rattle.keyed.specs.Keyed.{orElse, Compared, less, same, more, Order, insertBy, insert, join, heldAtBy, heldAt, Agree, Above, Rising, inForceBy, inForce, laterBy, later}
 
 or-assoc : {A : Type 0} (x y z : Option A) → orElse x (orElse y z) ≡ orElse (orElse x y) z
 or-assoc none y z = refl

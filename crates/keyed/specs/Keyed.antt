@@ -4,13 +4,9 @@ use Prim.Native.Nat.{ℕ, zero, suc}
 use mathlib.Core.Path.{_≡_}
 use mathlib.Core.Bool.{Bool, true, false, cond}
 use mathlib.Core.List.{List, [], _∷_}
+use mathlib.Core.Option.{Option, none, some}
 use lib.Dec.{leb}
 use lib.ListN.{length}
-
--- something, or nothing
-pub data Option (A : Type 0) : Type 0 where
-  none : Option A
-  some : A → Option A
 
 -- the first where there is one, and else the second
 abbrev pub orElse : {A : Type 0} → Option A → Option A → Option A

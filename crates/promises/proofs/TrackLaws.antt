@@ -3,6 +3,7 @@ use Prim.Native.Nat.{ℕ, _≤_}
 use mathlib.Core.Path.{_≡_, refl, ap, sym, _∙_}
 use mathlib.Core.List.{List, [], _∷_}
 use mathlib.Core.Bool.{Bool, true, false, cond}
+use mathlib.Core.Option.{Option, some}
 use native.Mathlib.Omega.{arith}
 use borrow.Author.Tests.{eqb-true, eq-eqb, leb-true}
 use lib.Dec.{eqb, leb}
@@ -10,7 +11,7 @@ use lib.IntN.{ℤ}
 use lib.ListN.{length, drop, replicate, length-append, length-drop, length-replicate}
 use lib.Seq.{take-at, length-take-le}
 use Rattle.record.proofs.Laws.{and-left, and-right, and-both}
-use Rattle.keyed.specs.Keyed.{Option, some, Compared, less, same, more, heldAtBy, join}
+use Rattle.keyed.specs.Keyed.{Compared, less, same, more, heldAtBy, join}
 use Rattle.keyed.proofs.Laws.{some-one, some-none}
 use Rattle.keyed.proofs.Mapped.{All, join-all}
 use Rattle.plan.specs.Limit.{mostPoints}

@@ -3,6 +3,7 @@ use Prim.Native.Nat.{ℕ, _+_, _≤_, _<_}
 use mathlib.Core.Path.{_≡_, refl, ap, sym, subst, _∙_}
 use mathlib.Core.List.{List, [], _∷_, _++_, map}
 use mathlib.Core.Bool.{Bool, true, false, cond, _&&_}
+use mathlib.Core.Option.{Option, none, some}
 use native.Mathlib.Omega.{arith}
 use borrow.Author.Tests.{eqb-true, eq-eqb, ne-eqb, leb-true, le-leb, leb-false, lt-leb}
 use lib.Dec.{T, eqb, leb}
@@ -12,7 +13,7 @@ use lib.ListN.{length}
 use Rattle.record.specs.declared.Record.{Record}
 use Rattle.record.specs.Valid.{valid}
 use Rattle.record.proofs.Laws.{and-both}
-use Rattle.keyed.specs.Keyed.{Option, none, some, orElse, laterBy, Compared, less, same, more, later, inForceBy, different}
+use Rattle.keyed.specs.Keyed.{orElse, laterBy, Compared, less, same, more, later, inForceBy, different}
 use Rattle.keyed.proofs.Laws.{held-in-join, join-rising, joined-shows-the-later-start, join-groups, nothing-joined, agreeing-swaps, swapping-agrees}
 use Rattle.keyed.proofs.Counted.{join-length, first-length, second-length}
 use Rattle.plan.specs.Limit.{mostPoints}

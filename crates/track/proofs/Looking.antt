@@ -2,6 +2,7 @@
 use mathlib.Core.Path.{_≡_, refl, sym, _∙_, ap, subst}
 use mathlib.Core.Bool.{Bool, true, false, cond}
 use mathlib.Core.List.{List, [], _∷_, map}
+use mathlib.Core.Option.{Option, none, some}
 use Prim.Native.Nat.{ℕ, zero, suc, _-_, _<_, _≤_}
 use native.Mathlib.Omega.{arith}
 use borrow.Author.Tests.{ne-eqb}
@@ -10,7 +11,7 @@ use lib.IntN.{ℤ}
 use lib.Signed.{ltZ}
 use lib.ListN.{length, take, getD, length-map}
 use lib.Seq.{length-take-le, getD-take}
-use Rattle.keyed.specs.Keyed.{Option, none, some, orElse, Compared, less, same, more, Above, inForceBy}
+use Rattle.keyed.specs.Keyed.{orElse, Compared, less, same, more, Above, inForceBy}
 use Rattle.plan.specs.declared.Found.{Found}
 use Rattle.plan.specs.Pictures.{Before, order, pictures, before-irreflexive, before-transitive}
 use Rattle.plan.specs.Seeking.{reachOf, foundAt, seekOf}

@@ -2,13 +2,14 @@
 use Prim.Native.Nat.{ℕ}
 use mathlib.Core.Bool.{Bool, true, false, cond, _&&_}
 use mathlib.Core.List.{List, [], _∷_, _++_}
+use mathlib.Core.Option.{Option, none, some}
 use lib.IntN.{ℤ, pos}
 use lib.ListN.{length, take, drop, replicate}
 use lib.Dec.{eqb, leb}
 use lib.Signed.{ltZ}
 use Rattle.record.specs.declared.Record.{Record}
 use Rattle.record.specs.Valid.{valid, emptyRecord}
-use Rattle.keyed.specs.Keyed.{Option, none, some, join, heldAt, Agree, Rising, inForce}
+use Rattle.keyed.specs.Keyed.{join, heldAt, Agree, Rising, inForce}
 use Rattle.plan.specs.Limit.{mostPoints}
 use Rattle.plan.specs.Pictures.{pictures}
 use Rattle.track.specs.declared.Point.{Point}

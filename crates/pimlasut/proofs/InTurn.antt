@@ -1,0 +1,56 @@
+-- Calls in turn: what one call leaves is what the next one reads. A placing and a join leave exactly their track, a reading its record.
+use Prim.Native.Nat.{ℕ, _≤_}
+use mathlib.Core.Path.{_≡_, refl}
+use mathlib.Core.Bool.{Bool, true, false, cond}
+use mathlib.Core.List.{List, [], _∷_}
+use native.Mathlib.Omega.{arith}
+use borrow.Author.Tests.{leb-true}
+use lib.Dec.{leb}
+use lib.IntN.{ℤ}
+use lib.ListN.{length, take}
+use Rattle.bits.specs.Bits.{Bytes}
+use Rattle.record.specs.Valid.{valid}
+use Rattle.promises.specs.Functions.{readBare}
+use Rattle.promises.proofs.Reading.{accepted-means-the-one-payload}
+use Rattle.keyed.proofs.Mapped.{join-all}
+use Rattle.plan.specs.Limit.{mostPoints}
+use Rattle.plan.specs.Pictures.{pictures}
+use Rattle.track.specs.declared.Point.{Point}
+use Rattle.track.specs.Track.{number, padded, isTrack, joinOf, placeOf}
+use Rattle.flat.specs.Flat.{flat, recordIn}
+use Rattle.flat.proofs.Named.{length-in, flat-names, valid-is-typed}
+use Rattle.tables.specs.Table.{tableIn}
+use Rattle.tables.proofs.Back.{TypedPoint, AllTyped, padded-back, track-typed}
+use Rattle.pimlasut.specs.Boundary.{placing, placedTable, joining, joinedTable}
+
+done-by : (u v w : Bool) → _≡_ {A = ℕ} (cond u (cond v (cond w 0 15) 16) 16) 0 → (u ≡ true) × (v ≡ true) × (w ≡ true)
+done-by true true true e = (refl, refl, refl)
+done-by true true false e = absurd (omega (arith, e))
+done-by true false w e = absurd (omega (arith, e))
+done-by false v w e = absurd (omega (arith, e))
+
+pub joined-is-read : (a : List ℤ) (n : ℕ) (b : List ℤ) (m : ℕ) → joining a n b m .result ≡ 0 → tableIn (joinedTable a n b m) ≡ padded (joinOf (tableIn a) n (tableIn b) m)
+joined-is-read a n b m e =
+    let d = done-by (isTrack (tableIn a) n) (isTrack (tableIn b) m) (leb (length (joinOf (tableIn a) n (tableIn b) m)) mostPoints) e in
+    padded-back (joinOf (tableIn a) n (tableIn b) m) (leb-true (length (joinOf (tableIn a) n (tableIn b) m)) mostPoints (d .2))
+    (join-all pictures number TypedPoint (take n (tableIn a)) (take m (tableIn b)) (track-typed a n (d .0)) (track-typed b m (d .1)))
+
+placed-by : (t : Bool) (p : Point) → TypedPoint p → (length (cond t (p ∷ []) []) ≤ mostPoints) × AllTyped (cond t (p ∷ []) [])
+placed-by true p g = (omega arith, (g, tt))
+placed-by false p g = (omega arith, tt)
+
+good-by : (u : Bool) → _≡_ {A = ℕ} (cond u 0 14) 0 → u ≡ true
+good-by true e = refl
+good-by false e = absurd (omega (arith, e))
+
+pub placed-is-read : (numbers : List ℤ) (picture : ℤ) → placing numbers picture .result ≡ 0 → tableIn (placedTable numbers picture) ≡ padded (placeOf (recordIn numbers) picture)
+placed-is-read numbers picture e =
+    let r = recordIn numbers in
+    let g = placed-by (r .refresh) (record { picture = picture; «record» = r }) (valid-is-typed r (length-in numbers) (good-by (valid r) e)) in
+    padded-back (placeOf r picture) (g .0) (g .1)
+
+-- and the numbers that a reading leaves name the record that was read
+pub reading-is-named : (s : List ℕ) → Bytes s → readBare s .result ≡ 0 → recordIn (flat (readBare s .«record»)) ≡ readBare s .«record»
+reading-is-named s h e =
+    let p = accepted-means-the-one-payload s h e .0 in
+    flat-names (readBare s .«record») (valid-is-typed (readBare s .«record») (p .places) (p .valid-record))

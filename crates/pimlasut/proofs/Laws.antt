@@ -1,0 +1,195 @@
+-- What the entry points' proofs share.
+use Prim.Native.Nat.{ℕ, _+_, _-_, _<_, _≤_}
+use mathlib.Core.Path.{_≡_, refl, sym, ap, subst, _∙_}
+use mathlib.Core.Bool.{Bool, true, false, not, cond, _&&_, _||_}
+use mathlib.Core.List.{List, _++_, map, append-nil}
+use native.Mathlib.Omega.{arith}
+use borrow.Author.Tests.{ne-eqb, eq-eqb, leb-true}
+use lib.Dec.{eqb, leb}
+use lib.IntN.{ℤ}
+use lib.ListN.{length, take, drop, drop-of-length-le, length-append}
+use lib.Seq.{paste, take-all}
+use Rattle.record.specs.declared.Record.{Record}
+use Rattle.record.specs.Valid.{mostBlocks, valid}
+use Rattle.syntax.specs.Element.{payload}
+use Rattle.syntax.proofs.Largest.{no-payload-is-longer, largest-length}
+use Rattle.writer.specs.declared.Written.{Written}
+use Rattle.writer.specs.Writing.{writtenAs, bufferAs, fits}
+use Rattle.plan.specs.declared.Scanned.{Scanned}
+use Rattle.plan.specs.declared.Layout.{Layout}
+use Rattle.plan.specs.declared.Found.{Found}
+use Rattle.plan.specs.Limit.{mostPoints}
+use Rattle.plan.specs.Planning.{noSources, layoutOf, mergedSources, refusal, planOf}
+use Rattle.plan.specs.Seeking.{reachOf, seekOf}
+use Rattle.flat.specs.Flat.{flat}
+use Rattle.track.specs.declared.Point.{Point}
+use Rattle.track.specs.declared.InForce.{InForce}
+use Rattle.track.specs.declared.Joined.{Joined}
+use Rattle.track.specs.Track.{padded, joinOf, joinRefusal, joinAnswer, lookupAnswer}
+use Rattle.track.specs.Working.{pointAt, heldOf, missingOf, lookFrom, scanOf, chosenOf, filledTo, answerOf}
+use Rattle.track.proofs.Together.{laid, answer-is, table-is}
+use Rattle.track.proofs.Looking.{look-is, inside}
+use Rattle.tables.specs.Table.{pointIn, tableIn}
+use Rattle.tables.proofs.Laws.{length-table, table-at}
+use Rattle.pimlasut.specs.Boundary.{unless, after}
+
+-- ---- lengths, and what stays
+
+module _ {A : Type 0} (n : ℕ) (new old : A) where
+  pub kept : (n ≡ 0 → ⊥) → old ≡ after n new old
+  kept h = sym (ap (λ (t : Bool). cond t new old) (ne-eqb n 0 h))
+
+  pub given : n ≡ 0 → new ≡ after n new old
+  given h = sym (ap (λ (t : Bool). cond t new old) (eq-eqb n 0 h))
+
+pub wrong : (t : Bool) (n : ℕ) → t ≡ false → 13 ≡ unless t n
+wrong t n h = sym (ap (λ (u : Bool). cond u n 13) h)
+
+pub right : (t : Bool) (n : ℕ) → t ≡ true → n ≡ unless t n
+right t n h = sym (ap (λ (u : Bool). cond u n 13) h)
+
+-- the code asks whether one of the lengths is wrong
+pub one-wrong : (a b : Bool) → not a || not b ≡ true → a && b ≡ false
+one-wrong true true h = sym h
+one-wrong true false h = refl
+one-wrong false b h = refl
+
+pub none-wrong : (a b : Bool) → not a || not b ≡ false → (a ≡ true) × (b ≡ true)
+none-wrong true true h = (refl, refl)
+none-wrong true false h = (refl, sym h)
+none-wrong false b h = let z : _≡_ {A = ℕ} 0 1 = cc in absurd (omega arith)
+
+pub one-of-three-wrong : (a b c : Bool) → not a || not b || not c ≡ true → a && b && c ≡ false
+one-of-three-wrong true true c h = one-wrong true c h
+one-of-three-wrong true false c h = refl
+one-of-three-wrong false b c h = refl
+
+pub none-of-three-wrong : (a b c : Bool) → not a || not b || not c ≡ false → (a ≡ true) × (b ≡ true) × (c ≡ true)
+none-of-three-wrong true true true h = (refl, refl, refl)
+none-of-three-wrong true true false h = let z : _≡_ {A = ℕ} 0 1 = cc in absurd (omega arith)
+none-of-three-wrong true false c h = let z : _≡_ {A = ℕ} 0 1 = cc in absurd (omega arith)
+none-of-three-wrong false b c h = let z : _≡_ {A = ℕ} 0 1 = cc in absurd (omega arith)
+
+pub pasted-whole : (d s : List ℤ) (n : ℕ) → length d ≡ n → length s ≡ n → paste d 0 s n ≡ s
+pasted-whole d s n e f =
+    ap (λ (l : List ℤ). l ++ drop (0 + n) d) (take-all n s (omega arith)) ∙ ap (λ (l : List ℤ). s ++ l) (drop-of-length-le d {i = 0 + n} (omega arith)) ∙ append-nil s
+
+-- a row that is a record's is read whole
+pub whole-row : (l : List ℤ) (n : ℕ) → length l ≡ n → take n (drop 0 l) ≡ l
+whole-row l n e = take-all n l (omega arith)
+
+-- ---- writing
+
+abbrev answerBy : List ℕ → Bool → Bool → Written
+answerBy bytes t u = cond t (cond u (record { result = 0; bytes = length bytes }) (record { result = 13; bytes = 0 })) (record { result = 14; bytes = 0 })
+
+abbrev bufferBy : List ℕ → List ℕ → Bool → List ℕ
+bufferBy bytes out t = cond t (bytes ++ drop (length bytes) out) out
+
+pub buffer-kept : (bytes : List ℕ) (good : Bool) (out : List ℕ) (n : ℕ) → n ≡ writtenAs bytes good out .result → bufferAs bytes good out ≡ after n (bufferAs bytes good out) out
+buffer-kept bytes good out n e = go good (fits bytes out) e
+  where
+    go : (t u : Bool) → n ≡ answerBy bytes t u .result → bufferBy bytes out (t && u) ≡ after n (bufferBy bytes out (t && u)) out
+    go true true h = given n (bufferBy bytes out true) out h
+    go true false h = kept n out out (λ z. omega (arith, h, z))
+    go false u h = kept n out out (λ z. omega (arith, h, z))
+
+pub few-bytes : (before : List ℕ) (r : Record) (out : List ℕ) → length before ≤ 8 → length (r .places) ≡ mostBlocks → writtenAs (before ++ payload r) (valid r) out .bytes < 4294967296
+few-bytes before r out h e = go (valid r) refl (fits (before ++ payload r) out)
+  where
+    go : (t : Bool) → valid r ≡ t → (u : Bool) → answerBy (before ++ payload r) t u .bytes < 4294967296
+    go true v true = omega (arith, length-append before (payload r), no-payload-is-longer r (record { places = e; valid-record = v }), largest-length)
+    go true v false = omega arith
+    go false v u = omega arith
+
+-- ---- a lookup
+
+abbrev foundBy : ℕ → Bool → Found
+foundBy k t = cond t (record { result = 0; found = false; at = 0 }) (record { result = 0; found = true; at = k - 1 })
+
+abbrev soughtBy : ℕ → Bool → Found
+soughtBy k t = cond t (foundBy k (eqb k 0)) (record { result = 16; found = false; at = 0 })
+
+done-by : (k : ℕ) (t : Bool) → foundBy k t .result ≡ 0
+done-by k true = refl
+done-by k false = refl
+
+no-way : {X : Type 0} → false ≡ true → X
+no-way e = let z : _≡_ {A = ℕ} 0 1 = cc in absurd (omega arith)
+
+found-done : (s : Scanned) (n : ℕ) (p : ℤ) → seekOf s n p .found ≡ true → seekOf s n p .result ≡ 0
+found-done s n p h = go (reachOf p (take n (s .pictures))) (s .track) h
+  where
+    go : (k : ℕ) (t : Bool) → soughtBy k t .found ≡ true → soughtBy k t .result ≡ 0
+    go k true h = done-by k (eqb k 0)
+    go k false h = no-way h
+
+-- what a search has found is what the lookup answers
+module _ (l : List ℤ) (n : ℕ) (p : ℤ) where
+  abbrev pub sought : Found
+  sought = seekOf (scanOf (tableIn l) n) n p
+
+  look-by : (f : Found) (t : Bool) → (t ≡ true → f .result ≡ 0)
+      → (cond t (heldOf (pointAt (tableIn l) (f .at))) (missingOf f) .result ≡ f .result) × (cond t (heldOf (pointAt (tableIn l) (f .at))) (missingOf f) .found ≡ t)
+  look-by f true h = (sym (h refl), refl)
+  look-by f false h = (refl, refl)
+
+  look : (lookFrom (tableIn l) sought .result ≡ sought .result) × (lookFrom (tableIn l) sought .found ≡ sought .found)
+  look = look-by sought (sought .found) (found-done (scanOf (tableIn l) n) n p)
+
+  pub sought-result : sought .result ≡ lookupAnswer (tableIn l) n p .result
+  sought-result = sym (look .0) ∙ ap (λ (a : InForce). a .result) (look-is (tableIn l) n p)
+
+  pub sought-found : sought .found ≡ lookupAnswer (tableIn l) n p .found
+  sought-found = sym (look .1) ∙ ap (λ (a : InForce). a .found) (look-is (tableIn l) n p)
+
+  pub sought-within : sought .found ≡ true → sought .at < mostPoints
+  sought-within h = omega (arith, inside (tableIn l) n p h, length-table l)
+
+  record-by : (t : Bool) → sought .found ≡ t → (m : Bool) (old : List ℤ)
+      → cond (m && t) (flat (pointIn l (sought .at) .«record»)) old ≡ cond (m && t) (flat (cond t (heldOf (pointAt (tableIn l) (sought .at))) (missingOf sought) .«record»)) old
+  record-by true h true old = ap (λ (q : Point). flat (q .«record»)) (sym (table-at l (sought .at) (sought-within h)))
+  record-by true h false old = refl
+  record-by false h true old = refl
+  record-by false h false old = refl
+
+  pub sought-record : (m : Bool) (old : List ℤ)
+      → cond (m && sought .found) (flat (pointIn l (sought .at) .«record»)) old ≡ cond (m && lookupAnswer (tableIn l) n p .found) (flat (lookupAnswer (tableIn l) n p .«record»)) old
+  sought-record m old =
+      record-by (sought .found) refl m old
+      ∙ ap (λ (a : InForce). cond (m && sought .found) (flat (a .«record»)) old) (look-is (tableIn l) n p)
+      ∙ ap (λ (t : Bool). cond (m && t) (flat (lookupAnswer (tableIn l) n p .«record»)) old) sought-found
+
+-- ---- a join
+
+fitting-count : (c : List ℕ) (t : Bool) → (t ≡ true → length c ≤ 64) → cond t (record { result = 0; count = length c; sources = c ++ drop (length c) noSources }) (refusal 15) .count ≤ 64
+fitting-count c true h = h refl
+fitting-count c false h = omega arith
+
+pub few-points : (s : Scanned) (n : ℕ) (t : Scanned) (m k : ℕ) → planOf s n t m k .count ≤ 64
+few-points s n t m k = go (s .track) (t .track) (eqb k mostPoints)
+  where
+    go : (u v w : Bool) → cond u (cond v (cond w (layoutOf (mergedSources (s .pictures) n (t .pictures) m)) (refusal 13)) (refusal 16)) (refusal 16) .count ≤ 64
+    go true true true = fitting-count (mergedSources (s .pictures) n (t .pictures) m) (leb (length (mergedSources (s .pictures) n (t .pictures) m)) 64) (leb-true (length (mergedSources (s .pictures) n (t .pictures) m)) 64)
+    go true true false = omega arith
+    go true false w = omega arith
+    go false v w = omega arith
+
+module _ (a : List ℤ) (n : ℕ) (b : List ℤ) (m : ℕ) where
+  abbrev pub planned : Layout
+  planned = laid (tableIn a) n (tableIn b) m mostPoints
+
+  pub planned-answer : answerOf planned ≡ joinAnswer (tableIn a) n (tableIn b) m mostPoints
+  planned-answer = answer-is (tableIn a) n (tableIn b) m mostPoints
+
+  -- where it is done, the entries are the join's
+  pub planned-table : planned .result ≡ 0 → map (chosenOf (tableIn a) (tableIn b)) (planned .sources) ≡ padded (joinOf (tableIn a) n (tableIn b) m)
+  planned-table h =
+      let t = tableIn a in
+      let e = table-is (tableIn a) n (tableIn b) m t in
+      let k = length-table a in
+      let f : joinRefusal (tableIn a) n (tableIn b) m mostPoints ≡ 0 = sym (ap (λ (j : Joined). j .result) planned-answer) ∙ h in
+      let g =
+      subst (λ (j : ℕ). filledTo t (tableIn a) (tableIn b) (laid (tableIn a) n (tableIn b) m j) ≡ cond (eqb (joinRefusal (tableIn a) n (tableIn b) m j) 0) (padded (joinOf (tableIn a) n (tableIn b) m)) t) k e in
+      sym (ap (λ (u : Bool). cond u (map (chosenOf (tableIn a) (tableIn b)) (planned .sources)) t) (eq-eqb (planned .result) 0 h)) ∙ g
+      ∙ ap (λ (u : Bool). cond u (padded (joinOf (tableIn a) n (tableIn b) m)) t) (eq-eqb (joinRefusal (tableIn a) n (tableIn b) m mostPoints) 0 f)

@@ -1,0 +1,4 @@
+pub mod Laws
+pub mod Patterns
+pub mod OneAnswer
+pub mod InTurn

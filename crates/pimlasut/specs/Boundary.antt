@@ -1,0 +1,67 @@
+-- What the functions for C answer and leave: what the library's functions answer, of the record or the table that numbers name.
+use Prim.Native.Nat.{ℕ}
+use mathlib.Core.Path.{_≡_}
+use mathlib.Core.List.{List, [], _∷_}
+use mathlib.Core.Bool.{Bool, cond}
+use lib.Dec.{eqb}
+use lib.IntN.{ℤ}
+use lib.ListN.{length}
+use Rattle.plan.specs.Limit.{mostPoints}
+use Rattle.track.specs.Track.{padded, joinOf, joinAnswer, placeOf, placeAnswer, lookupAnswer}
+use Rattle.track.specs.declared.Placed.{Placed}
+use Rattle.track.specs.declared.InForce.{InForce}
+use Rattle.track.specs.declared.Joined.{Joined}
+use Rattle.flat.specs.Flat.{flatLength, recordIn}
+use Rattle.tables.specs.Table.{flatTable, tableLength, tableIn}
+
+-- an argument of a wrong length is refused with 13 before everything else
+abbrev pub unless : Bool → ℕ → ℕ
+unless sized result = cond sized result 13
+
+-- a lent array or number afterwards: new where the result is 0, and else as it was
+abbrev pub after : {A : Type 0} → ℕ → A → A → A
+after result new old = cond (eqb result 0) new old
+
+-- the row has as many numbers as a record
+abbrev pub isRecord : List ℤ → Bool
+isRecord l = eqb (length l) flatLength
+
+-- the row has as many numbers as a table
+abbrev pub isTable : List ℤ → Bool
+isTable l = eqb (length l) tableLength
+
+-- a level 2 block has seven numbers for the shader
+abbrev pub singles : ℕ
+singles = 7
+
+-- ---- the track functions, of tables of numbers
+-- what a placing answers, of the record that the numbers name
+abbrev pub placing : List ℤ → ℤ → Placed
+placing numbers picture = placeAnswer (recordIn numbers) picture mostPoints
+
+-- the numbers of the table that it leaves where it is done
+abbrev pub placedTable : List ℤ → ℤ → List ℤ
+placedTable numbers picture = flatTable (padded (placeOf (recordIn numbers) picture))
+
+-- what a lookup answers, of the table that the numbers are
+abbrev pub looking : List ℤ → ℕ → ℤ → InForce
+looking table count picture = lookupAnswer (tableIn table) count picture
+
+-- what a join answers
+abbrev pub joining : List ℤ → ℕ → List ℤ → ℕ → Joined
+joining a n b m = joinAnswer (tableIn a) n (tableIn b) m mostPoints
+
+-- the numbers of the table that it leaves where it is done
+abbrev pub joinedTable : List ℤ → ℕ → List ℤ → ℕ → List ℤ
+joinedTable a n b m = flatTable (padded (joinOf (tableIn a) n (tableIn b) m))
+
+-- ---- single-precision numbers
+
+-- the pattern that is written for what is no number: the code asks for the bits of numbers only
+abbrev pub noNumber : ℕ
+noNumber = 0x7FC0_0000
+
+-- each of these bits is a number's
+abbrev pub Patterns : List ℕ → Type 0
+Patterns [] = Unit {0}
+Patterns (b ∷ bits) = (b ≡ noNumber → ⊥) × Patterns bits

@@ -1,0 +1,259 @@
+// The library for C: include/pimlasut.h has the same functions with C's types. A slice crosses as a pointer and a length.
+// A record crosses as 146 numbers and a table of points as 9,408 (crates flat, tables), because no enum crosses.
+// Every function answers the result number; on a refusal every lent array and number stays as it was.
+use plan::Found;
+use reader::Reading;
+use record::Record;
+use shader::Numbers;
+use track::Point;
+use writer::Written;
+ghost use mathlib.Core.Path.{_≡_};
+ghost use mathlib.Core.Bool.{true, cond, _&&_};
+ghost use Prim.Native.Nat.{_<_};
+ghost use lib.Dec.{eqb};
+ghost use lib.ListN.{length};
+ghost use Rattle.bits.specs.Bits.{bit};
+ghost use Rattle.record.specs.Valid.{mostBlocks};
+ghost use Rattle.shader.specs.Shader.{bitsIn, conversionResult, conversionBits};
+ghost use Rattle.promises.specs.Functions.{readBare, readWrapped, writeBare, bareBuffer, writeWrapped, wrappedBuffer};
+ghost use Rattle.plan.specs.Limit.{mostPoints};
+ghost use Rattle.flat.specs.Flat.{placeLength, flat, flatLength, recordIn, blockNamed};
+ghost use Rattle.track.specs.Track.{padded, placeOf};
+ghost use Rattle.tables.specs.Table.{flatTable, tableLength, pointIn};
+ghost use Rattle.pimlasut.specs.Boundary.{unless, after, isRecord, isTable, singles, placing, placedTable, looking, joining, joinedTable, Patterns};
+
+// 01, Refusal numbers.
+const WRONG_LENGTH: u32 = 13;
+
+const NOT_VALID: u32 = 14;
+
+// ---- reading
+
+fn give_reading(reading: Reading, numbers: &mut [i32], bits: &mut u32) -> u32
+    requires { ⌜ length (now numbers) ≡ flatLength ⌝ }
+    ensures result { λ r. ⌜ r ≡ reading .result ⌝ }
+    ensures record { λ r. ⌜ now (numbers .exit) ≡ after r (flat (reading .«record»)) (now (numbers .entry)) ⌝ }
+    ensures bits { λ r. ⌜ now (bits .exit) ≡ after r (reading .bits) (now (bits .entry)) ⌝ }
+{
+    if reading.result != 0 {
+        return reading.result as u32;
+    }
+    let r = reading.record;
+    flat::put_record(numbers, 0, r);
+    *bits = reading.bits;
+    0
+}
+
+#[no_mangle]
+pub extern "C" fn pim_read_bare(input: &[u8], numbers: &mut [i32], bits: &mut u32) -> u32
+    ensures result { λ r. ⌜ r ≡ unless (isRecord (now (numbers .entry))) (readBare (now (input .entry)) .result) ⌝ }
+    ensures record { λ r. ⌜ now (numbers .exit) ≡ after r (flat (readBare (now (input .entry)) .«record»)) (now (numbers .entry)) ⌝ }
+    ensures bits { λ r. ⌜ now (bits .exit) ≡ after r (readBare (now (input .entry)) .bits) (now (bits .entry)) ⌝ }
+{
+    if numbers.len() != flat::NUMBERS {
+        return WRONG_LENGTH;
+    }
+    let reading = reader::read_data(input);
+    give_reading(reading, numbers, bits)
+}
+
+#[no_mangle]
+pub extern "C" fn pim_read_wrapped(input: &[u8], numbers: &mut [i32], bits: &mut u32) -> u32
+    ensures result { λ r. ⌜ r ≡ unless (isRecord (now (numbers .entry))) (readWrapped (now (input .entry)) .result) ⌝ }
+    ensures record { λ r. ⌜ now (numbers .exit) ≡ after r (flat (readWrapped (now (input .entry)) .«record»)) (now (numbers .entry)) ⌝ }
+    ensures bits { λ r. ⌜ now (bits .exit) ≡ after r (readWrapped (now (input .entry)) .bits) (now (bits .entry)) ⌝ }
+{
+    if numbers.len() != flat::NUMBERS {
+        return WRONG_LENGTH;
+    }
+    let reading = wrapper::read_wrapped(input);
+    give_reading(reading, numbers, bits)
+}
+
+// ---- writing
+
+fn give_written(answer: Written, written: &mut u32) -> u32
+    requires { ⌜ answer .bytes < 4294967296 ⌝ }
+    ensures result { λ r. ⌜ r ≡ answer .result ⌝ }
+    ensures bytes { λ r. ⌜ now (written .exit) ≡ after r (answer .bytes) (now (written .entry)) ⌝ }
+{
+    if answer.result != 0 {
+        return answer.result as u32;
+    }
+    *written = answer.bytes as u32;
+    0
+}
+
+#[no_mangle]
+pub extern "C" fn pim_write_bare(numbers: &[i32], out: &mut [u8], written: &mut u32) -> u32
+    ensures result { λ r. ⌜ r ≡ unless (isRecord (now (numbers .entry))) (writeBare (recordIn (now (numbers .entry))) (now (out .entry)) .result) ⌝ }
+    ensures buffer { λ r. ⌜ now (out .exit) ≡ after r (bareBuffer (recordIn (now (numbers .entry))) (now (out .entry))) (now (out .entry)) ⌝ }
+    ensures bytes { λ r. ⌜ now (written .exit) ≡ after r (writeBare (recordIn (now (numbers .entry))) (now (out .entry)) .bytes) (now (written .entry)) ⌝ }
+{
+    if numbers.len() != flat::NUMBERS {
+        return WRONG_LENGTH;
+    }
+    let r = flat::get_record(numbers, 0);
+    let answer = writer::write_data(r, out);
+    give_written(answer, written)
+}
+
+#[no_mangle]
+pub extern "C" fn pim_write_wrapped(numbers: &[i32], out: &mut [u8], written: &mut u32) -> u32
+    ensures result { λ r. ⌜ r ≡ unless (isRecord (now (numbers .entry))) (writeWrapped (recordIn (now (numbers .entry))) (now (out .entry)) .result) ⌝ }
+    ensures buffer { λ r. ⌜ now (out .exit) ≡ after r (wrappedBuffer (recordIn (now (numbers .entry))) (now (out .entry))) (now (out .entry)) ⌝ }
+    ensures bytes { λ r. ⌜ now (written .exit) ≡ after r (writeWrapped (recordIn (now (numbers .entry))) (now (out .entry)) .bytes) (now (written .entry)) ⌝ }
+{
+    if numbers.len() != flat::NUMBERS {
+        return WRONG_LENGTH;
+    }
+    let r = flat::get_record(numbers, 0);
+    let answer = wrapper::write_wrapped(r, out);
+    give_written(answer, written)
+}
+
+// ---- the shader's numbers
+
+fn put_bits(n: Numbers, bits: &mut [u32])
+    requires { ⌜ (length (now bits) ≡ singles) × Patterns (bitsIn n) ⌝ }
+    ensures { λ _. ⌜ now (bits .exit) ≡ bitsIn n ⌝ }
+{
+    bits[0] = f32::to_bits(n.target_max_pq);
+    bits[1] = f32::to_bits(n.trim_slope);
+    bits[2] = f32::to_bits(n.trim_offset);
+    bits[3] = f32::to_bits(n.trim_power);
+    bits[4] = f32::to_bits(n.trim_chroma_weight);
+    bits[5] = f32::to_bits(n.trim_saturation_gain);
+    bits[6] = f32::to_bits(n.ms_weight);
+}
+
+#[no_mangle]
+pub extern "C" fn pim_shader(numbers: &[i32], bits: &mut [u32]) -> u32
+    ensures result { λ r. ⌜ r ≡ unless (eqb (length (now (numbers .entry))) placeLength && eqb (length (now (bits .entry))) singles) (conversionResult (blockNamed (now (numbers .entry)))) ⌝ }
+    ensures bits { λ r. ⌜ now (bits .exit) ≡ after r (conversionBits (blockNamed (now (numbers .entry)))) (now (bits .entry)) ⌝ }
+{
+    if (numbers.len() != 8) | (bits.len() != 7) {
+        return WRONG_LENGTH;
+    }
+    let block = flat::get_block(numbers, 0);
+    let conversion = shader::shader_numbers(block);
+    if conversion.result != 0 {
+        return conversion.result as u32;
+    }
+    let n = conversion.numbers;
+    put_bits(n, bits);
+    0
+}
+
+// ---- tracks
+
+fn place_point(table: &mut [i32], shown: Record, picture: i32) -> u32
+    requires { ⌜ (length (now table) ≡ tableLength) × (length (shown .places) ≡ mostBlocks) ⌝ }
+    ensures count { λ r. ⌜ r ≡ bit (shown .refresh) ⌝ }
+    ensures table { λ _. ⌜ now (table .exit) ≡ flatTable (padded (placeOf shown picture)) ⌝ }
+{
+    tables::clear(table);
+    if shown.refresh {
+        let point = Point {
+            picture,
+            record: shown,
+        };
+        tables::put_point(table, 0, point);
+        return 1;
+    }
+    0
+}
+
+#[no_mangle]
+pub extern "C" fn pim_place(
+    numbers: &[i32],
+    picture: i32,
+    table: &mut [i32],
+    count: &mut u32,
+) -> u32
+    ensures result { λ r. ⌜ r ≡ unless (isRecord (now (numbers .entry)) && isTable (now (table .entry))) (placing (now (numbers .entry)) picture .result) ⌝ }
+    ensures table { λ r. ⌜ now (table .exit) ≡ after r (placedTable (now (numbers .entry)) picture) (now (table .entry)) ⌝ }
+    ensures count { λ r. ⌜ now (count .exit) ≡ after r (placing (now (numbers .entry)) picture .count) (now (count .entry)) ⌝ }
+{
+    if (numbers.len() != flat::NUMBERS) | (table.len() != tables::NUMBERS) {
+        return WRONG_LENGTH;
+    }
+    let r = flat::get_record(numbers, 0);
+    if record::is_valid(r) {
+        *count = place_point(table, r, picture);
+        return 0;
+    }
+    NOT_VALID
+}
+
+// What a search has found, shown.
+fn show(table: &[i32], sought: Found, numbers: &mut [i32], found: &mut u32) -> u32
+    requires { ⌜ (length (now table) ≡ tableLength) × (length (now numbers) ≡ flatLength) × (sought .found ≡ true → sought .at < mostPoints) ⌝ }
+    ensures result { λ r. ⌜ r ≡ sought .result ⌝ }
+    ensures record { λ r. ⌜ now (numbers .exit) ≡ cond (eqb r 0 && sought .found) (flat (pointIn (now (table .entry)) (sought .at) .«record»)) (now (numbers .entry)) ⌝ }
+    ensures found { λ r. ⌜ now (found .exit) ≡ after r (bit (sought .found)) (now (found .entry)) ⌝ }
+{
+    if sought.result != 0 {
+        return sought.result as u32;
+    }
+    if sought.found {
+        let at = sought.at;
+        let point = tables::get_point(table, at);
+        let shown = point.record;
+        flat::put_record(numbers, 0, shown);
+        *found = 1;
+        return 0;
+    }
+    *found = 0;
+    0
+}
+
+#[no_mangle]
+pub extern "C" fn pim_lookup(
+    table: &[i32],
+    count: usize,
+    picture: i32,
+    numbers: &mut [i32],
+    found: &mut u32,
+) -> u32
+    ensures result { λ r. ⌜ r ≡ unless (isTable (now (table .entry)) && isRecord (now (numbers .entry))) (looking (now (table .entry)) count picture .result) ⌝ }
+    ensures record { λ r. ⌜ now (numbers .exit) ≡ cond (eqb r 0 && looking (now (table .entry)) count picture .found) (flat (looking (now (table .entry)) count picture .«record»)) (now (numbers .entry)) ⌝ }
+    ensures found { λ r. ⌜ now (found .exit) ≡ after r (bit (looking (now (table .entry)) count picture .found)) (now (found .entry)) ⌝ }
+{
+    if (table.len() != tables::NUMBERS) | (numbers.len() != flat::NUMBERS) {
+        return WRONG_LENGTH;
+    }
+    let seen = tables::scan(table, count);
+    let sought = plan::seek(seen, count, picture);
+    show(table, sought, numbers, found)
+}
+
+#[no_mangle]
+pub extern "C" fn pim_join(
+    first: &[i32],
+    first_count: usize,
+    second: &[i32],
+    second_count: usize,
+    table: &mut [i32],
+    count: &mut u32,
+) -> u32
+    ensures result { λ r. ⌜ r ≡ unless (isTable (now (first .entry)) && isTable (now (second .entry)) && isTable (now (table .entry))) (joining (now (first .entry)) «first_count» (now (second .entry)) «second_count» .result) ⌝ }
+    ensures table { λ r. ⌜ now (table .exit) ≡ after r (joinedTable (now (first .entry)) «first_count» (now (second .entry)) «second_count») (now (table .entry)) ⌝ }
+    ensures count { λ r. ⌜ now (count .exit) ≡ after r (joining (now (first .entry)) «first_count» (now (second .entry)) «second_count» .count) (now (count .entry)) ⌝ }
+{
+    if (first.len() != tables::NUMBERS)
+        | (second.len() != tables::NUMBERS)
+        | (table.len() != tables::NUMBERS)
+    {
+        return WRONG_LENGTH;
+    }
+    let s = tables::scan(first, first_count);
+    let t = tables::scan(second, second_count);
+    let layout = plan::decide(s, first_count, t, second_count, plan::POINTS);
+    if layout.result != 0 {
+        return layout.result as u32;
+    }
+    tables::fill(table, first, second, layout);
+    *count = layout.count as u32;
+    0
+}

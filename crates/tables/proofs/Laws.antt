@@ -1,0 +1,145 @@
+-- Points in a row of numbers, one by one.
+use Prim.Native.Nat.{ℕ, zero, suc, _+_, _-_, _*_, _<_, _≤_}
+use mathlib.Core.Path.{_≡_, refl, sym, ap, _∙_}
+use mathlib.Core.Bool.{Bool, true, false, cond}
+use mathlib.Core.List.{List, [], _∷_, _++_, map, append-nil}
+use native.Mathlib.Omega.{arith}
+use borrow.Author.Tests.{ltb-true}
+use lib.Dec.{ltb}
+use lib.IntN.{ℤ, pos}
+use lib.ListN.{length, take, drop, getD, set, replicate, length-map, List·getD-map, drop-of-length-le, length-replicate, getD-replicate, replicate-append-replicate}
+use lib.Seq.{paste, paste-zero, paste-suc, take-all, drop-at}
+use Rattle.record.specs.Valid.{mostBlocks}
+use Rattle.plan.specs.Limit.{mostPoints}
+use Rattle.plan.specs.Planning.{neither}
+use Rattle.track.specs.declared.Point.{Point}
+use Rattle.track.specs.Track.{cleared, padded}
+use Rattle.track.specs.Working.{unfilled, pointAt, chosenOf}
+use Rattle.flat.specs.Flat.{flatLength, rowsOf, flat}
+use Rattle.flat.proofs.Rows.{paste-more}
+use Rattle.flat.proofs.Places.{length-each, rows-at, length-rows, Even}
+use Rattle.flat.proofs.Named.{each-at, length-flat, length-in, empty-is-zeros}
+use Rattle.tables.specs.Table.{flatPoint, pointLength, flatTable, tableLength, zeros, pointIn, tableIn}
+
+pub length-table : (l : List ℤ) → length (tableIn l) ≡ mostPoints
+unfolding tableIn
+length-table l = length-each (pointIn l) mostPoints
+
+pub entry-is : (l : List ℤ) (i : ℕ) (d : Point) → i < mostPoints → getD (tableIn l) i d ≡ pointIn l i
+unfolding tableIn
+entry-is l i d h = each-at (pointIn l) mostPoints i d h
+
+pub table-at : (l : List ℤ) (i : ℕ) → i < mostPoints → pointAt (tableIn l) i ≡ pointIn l i
+table-at l i h = entry-is l i unfilled h
+
+-- ---- zeros
+
+pub length-zeros : (n : ℕ) → length (zeros n) ≡ n
+unfolding zeros
+length-zeros n = length-replicate n (pos 0)
+
+pub zeros-at : (n i : ℕ) → i < n → getD (zeros n) i (pos 0) ≡ pos 0
+unfolding zeros
+zeros-at n i h = getD-replicate n i (pos 0) (pos 0) h
+
+pub all-zeros : (d : List ℤ) (n : ℕ) → length d ≡ n → take n (zeros n) ++ drop n d ≡ zeros n
+all-zeros d n e = rw (take-all n (zeros n) (omega (arith, length-zeros n)), drop-of-length-le d {i = n} (omega arith)) (append-nil (zeros n))
+
+-- ---- a point
+
+pub point-pasted : (d : List ℤ) (at : ℕ) (p : Point) → at + pointLength ≤ length d → paste (set d at (p .picture)) (at + 1) (flat (p .«record»)) flatLength ≡ paste d at (flatPoint p) pointLength
+unfolding flatPoint
+point-pasted d at p room =
+    let e : at + 0 ≡ at = omega arith in
+    let one : set d at (p .picture) ≡ paste d at (flatPoint p) 1 =
+    ap (λ (t : List ℤ). set t at (p .picture)) (paste-zero d at (flatPoint p)) ∙ ap (λ (k : ℕ). set (paste d at (flatPoint p) 0) k (p .picture)) (sym e)
+    ∙ paste-suc d at (flatPoint p) 0 (pos 0) (omega arith) (omega arith) in
+    ap (λ (t : List ℤ). paste t (at + 1) (flat (p .«record»)) flatLength) one
+    ∙ paste-more d at (flatPoint p) 1 (flat (p .«record»)) flatLength (omega arith) (omega arith) refl
+
+pub length-point : (p : Point) → length (p .«record» .places) ≡ mostBlocks → length (flatPoint p) ≡ pointLength
+unfolding flatPoint
+length-point p e = omega (arith, length-flat (p .«record») e)
+
+-- what an entry names has its 18 places
+pub places-in : (l : List ℤ) (i : ℕ) → length (pointIn l i .«record» .places) ≡ mostBlocks
+unfolding pointIn
+places-in l i = length-in _
+
+length-named : (l : List ℤ) (i : ℕ) → length (flatPoint (pointIn l i)) ≡ pointLength
+length-named l i = length-point (pointIn l i) (places-in l i)
+
+pub length-cleared : length (flatPoint cleared) ≡ pointLength
+unfolding cleared
+length-cleared = length-point cleared refl
+
+-- ---- the points that a layout names
+
+module _ (a b : List ℤ) where
+  abbrev pub chosen : ℕ → Point
+  chosen source = chosenOf (tableIn a) (tableIn b) source
+
+  length-at : (l : List ℤ) (i : ℕ) → i < mostPoints → length (flatPoint (pointAt (tableIn l) i)) ≡ pointLength
+  length-at l i h = ap (λ (p : Point). length (flatPoint p)) (table-at l i h) ∙ length-named l i
+
+  pub length-chosen : (source : ℕ) → length (flatPoint (chosen source)) ≡ pointLength
+  length-chosen source = go (ltb source mostPoints) (ltb source neither) (ltb-true source mostPoints) (ltb-true source neither)
+    where
+      go : (t u : Bool) → (t ≡ true → source < mostPoints) → (u ≡ true → source < neither)
+          → length (flatPoint (cond t (pointAt (tableIn a) (cond t source 0)) (cond u (pointAt (tableIn b) (cond t 0 (cond u (source - mostPoints) 0))) cleared))) ≡ pointLength
+      go true u f g = length-at a source (f refl)
+      go false true f g = let h = g refl in length-at b (source - mostPoints) (omega arith)
+      go false false f g = length-cleared
+
+  abbrev pub laidOut : List ℕ → List ℤ
+  laidOut sources = flatTable (map chosen sources)
+
+  even : (sources : List ℕ) → Even flatPoint pointLength (chosen 0) (map chosen sources)
+  even sources i h = ap (λ (p : Point). length (flatPoint p)) (List·getD-map chosen sources i 0) ∙ length-chosen (getD sources i 0)
+
+  pub laid-at : (sources : List ℕ) (k : ℕ) → k < length sources → take pointLength (drop (pointLength * k) (laidOut sources)) ≡ flatPoint (chosen (getD sources k 0))
+  laid-at sources k h =
+      rows-at flatPoint pointLength (chosen 0) (map chosen sources) k (omega (arith, length-map sources chosen)) (even sources)
+      ∙ ap flatPoint (List·getD-map chosen sources k 0)
+
+  pub laid-length : (sources : List ℕ) → length (laidOut sources) ≡ pointLength * length sources
+  laid-length sources = length-rows flatPoint pointLength (chosen 0) (map chosen sources) (even sources) ∙ ap (λ (n : ℕ). pointLength * n) (length-map sources chosen)
+
+-- a row that is pasted whole, or not at all
+pub pasted-by : (t : Bool) (d s : List ℤ) → length d ≡ tableLength → length s ≡ tableLength → paste d 0 s (pointLength * cond t mostPoints 0) ≡ cond t s d
+pasted-by true d s e f =
+    ap (λ (x : List ℤ). x ++ drop (0 + tableLength) d) (take-all tableLength s (omega arith))
+    ∙ ap (λ (x : List ℤ). s ++ x) (drop-of-length-le d {i = 0 + tableLength} (omega arith)) ∙ append-nil s
+pasted-by false d s e f = sym (paste-zero d 0 s)
+
+-- ---- cleared entries
+
+join-zeros : (m n : ℕ) → zeros m ++ zeros n ≡ zeros (m + n)
+unfolding zeros
+join-zeros m n = replicate-append-replicate m n (pos 0)
+
+drop-zeros : (m n : ℕ) → drop m (zeros (m + n)) ≡ zeros n
+drop-zeros m n = ap (drop m) (sym (join-zeros m n)) ∙ drop-at (zeros m) (zeros n) m (length-zeros m)
+
+-- picture 0 with the empty record is all zeros
+pub cleared-is-zeros : flatPoint cleared ≡ zeros pointLength
+unfolding flatPoint cleared zeros
+cleared-is-zeros = ap (λ (l : List ℤ). pos 0 ∷ l) empty-is-zeros
+
+pub cleared-are-zeros : (n : ℕ) → flatTable (replicate n cleared) ≡ zeros (pointLength * n)
+unfolding rowsOf zeros
+cleared-are-zeros zero = refl
+cleared-are-zeros (suc n) =
+    let e : pointLength + pointLength * n ≡ pointLength * suc n = omega arith in
+    ap (λ (l : List ℤ). l ++ flatTable (replicate n cleared)) cleared-is-zeros ∙ ap (λ (l : List ℤ). zeros pointLength ++ l) (cleared-are-zeros n)
+    ∙ join-zeros pointLength (pointLength * n) ∙ ap zeros e
+
+-- what a placing leaves: no point, or one
+pub placed-none : zeros tableLength ≡ flatTable (padded [])
+placed-none = sym (cleared-are-zeros mostPoints)
+
+pub placed-one : (p : Point) → length (flatPoint p) ≡ pointLength → paste (zeros tableLength) 0 (flatPoint p) pointLength ≡ flatTable (padded (p ∷ []))
+unfolding rowsOf
+placed-one p e =
+    ap (λ (l : List ℤ). l ++ drop (0 + pointLength) (zeros tableLength)) (take-all pointLength (flatPoint p) (omega arith))
+    ∙ ap (λ (l : List ℤ). flatPoint p ++ l) (drop-zeros pointLength (pointLength * 63) ∙ sym (cleared-are-zeros 63))

@@ -1,0 +1,143 @@
+/*
+ * Pimlasut for C: a reader and a writer for ST2094-10_data (ATSC A/341, Annex E), bare or in its ITU-T T.35 wrapper, the
+ * shader's numbers, and tracks of records over pictures.
+ *
+ * Link with libpimlasut.a, which `rt staticlib pimlasut` writes. It needs memcpy and memset and nothing else, allocates
+ * nothing, and keeps nothing from one call to the next.
+ *
+ * Every function is proved to answer as is said here, for every input (crates/pimlasut). It answers a result number:
+ * 0 means done, any other is a refusal. ON A REFUSAL EVERY ARRAY AND EVERY SINGLE NUMBER STAYS AS IT WAS.
+ *
+ * What a caller owes: each pointer is not null, also where a length is 0, and is aligned for its type; `x` and `x_len` name
+ * an array of x_len elements (not bytes) that can be read, and written where it is not const; what is written overlaps
+ * nothing else that is passed in the same call; and no other thread writes any of it during the call.
+ */
+#ifndef PIMLASUT_H
+#define PIMLASUT_H
+
+#include <stddef.h>
+#include <stdint.h>
+
+#ifdef __cplusplus
+extern "C" {
+#endif
+
+/*
+ * A record is PIM_RECORD_LEN numbers:
+ *
+ *   record[0]              the refresh flag: 0 or 1
+ *   record[1]              the count of blocks
+ *   record[PIM_PLACE(i)]   the place i, 0 to 17, PIM_PLACE_LEN numbers: the block's level, or 0 for nothing; its fields in
+ *                          the order of the syntax; and zeros
+ *
+ *   level 1   min_PQ, max_PQ, avg_PQ
+ *   level 2   target_max_PQ, trim_slope, trim_offset, trim_power, trim_chroma_weight, trim_saturation_gain, ms_weight
+ *   level 5   left, right, top and bottom active-area offset
+ *
+ * The empty record is all zeros. Exactly one row of numbers stands for each record. A row that stands for none is treated
+ * as a record that is not valid: a refresh flag other than 0 and 1, a level other than 0, 1, 2 and 5, a count that is no
+ * uint8_t, a field that is no uint16_t (ms_weight: no int16_t), or an unused number that is not 0.
+ */
+#define PIM_BLOCKS 18
+#define PIM_PLACE_LEN 8
+#define PIM_PLACE(i) (2 + PIM_PLACE_LEN * (i))
+#define PIM_RECORD_LEN 146
+
+/* No payload is longer, bare and wrapped. */
+#define PIM_BARE_BYTES 224
+#define PIM_WRAPPED_BYTES 232
+
+/*
+ * A table is PIM_TABLE_LEN numbers: PIM_POINTS points of PIM_POINT_LEN numbers each, table[PIM_POINT(i)] being the point i:
+ *
+ *   table[PIM_POINT(i)]       its picture number, in output order
+ *   table[PIM_POINT(i) + 1]   its record, PIM_RECORD_LEN numbers
+ *
+ * It crosses as numbers, and not as the library's own points, because a point's record holds an enum and no enum crosses.
+ * The functions work on the numbers where they lie and copy no table. All zeros is a table whose points have picture 0 and
+ * the empty record, so a static or calloc'd table is ready to use; it has 37,632 bytes.
+ * A track is a table with a count: the first count points have rising picture numbers and valid records with the refresh
+ * flag 1. What lies past them is ignored. With count 0 any table is the empty track.
+ */
+#define PIM_POINTS 64
+#define PIM_POINT_LEN 147
+#define PIM_POINT(i) (PIM_POINT_LEN * (i))
+#define PIM_TABLE_LEN 9408
+
+/* The numbers that the shader gets. */
+#define PIM_SHADER_LEN 7
+
+/* Result numbers. */
+enum {
+    PIM_DONE = 0,
+    PIM_PAST_END = 1,       /* a bit or byte is needed past the end of the input */
+    PIM_LONG_CODE = 2,      /* a ue(v) code has a 16th zero */
+    PIM_WRAPPER = 3,        /* a wrapper byte differs */
+    PIM_IDENTIFIER = 4,     /* app_identifier is not 1 */
+    PIM_VERSION = 5,        /* app_version is not 0 */
+    PIM_MANY_BLOCKS = 6,    /* num_ext_blocks is above 18 */
+    PIM_ZERO_BIT = 7,       /* a zero bit is a one */
+    PIM_LEVEL = 8,          /* level is not 1, 2 or 5 */
+    PIM_LENGTH = 9,         /* length is not the level's */
+    PIM_ORDER = 10,         /* level 1 not in order min <= avg <= max */
+    PIM_REPEAT = 11,        /* second level 1, second level 5, 17th level 2, or a target_max_PQ already met */
+    PIM_BYTES_REMAIN = 12,  /* bytes remain after the data */
+    PIM_SHORT = 13,         /* output shorter than needed, or a result table that has not exactly 64 entries; and here, before
+                               everything else, any record, block or table that has not exactly its length */
+    PIM_NOT_VALID = 14,     /* record to be written or placed is not valid, or block to be converted is not a level 2 block
+                               in range */
+    PIM_MANY_POINTS = 15,   /* a join has more than 64 different numbers */
+    PIM_NOT_TRACK = 16      /* not a track: count above 64, numbers not rising, or a point's record not valid with flag 1 (a
+                               table that has not exactly 64 entries is refused with 13 here) */
+};
+
+/*
+ * Read a payload of n bytes, bare or behind the eight wrapper bytes. Done: the record, and the bits read (the wrapper not
+ * counted). Refused: 13 if record_len is not PIM_RECORD_LEN; else 1 to 12, by the first failure from left to right.
+ */
+uint32_t pim_read_bare(const uint8_t *in, size_t n, int32_t *record, size_t record_len, uint32_t *bits);
+uint32_t pim_read_wrapped(const uint8_t *in, size_t n, int32_t *record, size_t record_len, uint32_t *bits);
+
+/*
+ * Write a record's payload into the first bytes of out, bare or behind the eight wrapper bytes; later bytes stay. Done:
+ * the bytes written. Refused: 13 if record_len is not PIM_RECORD_LEN; then 14 if the record is not valid; then 13 if n is
+ * less than is needed.
+ */
+uint32_t pim_write_bare(const int32_t *record, size_t record_len, uint8_t *out, size_t n, uint32_t *written);
+uint32_t pim_write_wrapped(const int32_t *record, size_t record_len, uint8_t *out, size_t n, uint32_t *written);
+
+/*
+ * The seven numbers of a level 2 block, in the order of its fields, as the bits of single-precision numbers: each is
+ * exactly its code / 4096. block is a place of a record, as &record[PIM_PLACE(i)]. Refused: 13 if block_len is not
+ * PIM_PLACE_LEN or bits_len is not PIM_SHADER_LEN; then 14 if it is not a level 2 block in range.
+ */
+uint32_t pim_shader(const int32_t *block, size_t block_len, uint32_t *bits, size_t bits_len);
+
+/*
+ * Make a track of one point, a record at a picture, in a table; with the refresh flag 0, the empty track. Done: the table,
+ * with zeros past the point, and its count. Refused: 13 if record_len is not PIM_RECORD_LEN or table_len is not
+ * PIM_TABLE_LEN; then 14 if the record is not valid.
+ */
+uint32_t pim_place(const int32_t *record, size_t record_len, int32_t picture, int32_t *table, size_t table_len, uint32_t *count);
+
+/*
+ * Look a picture up in a track. Done: found is 1 and record is the record in force, that of the point with the greatest
+ * number not above picture; or found is 0, and record stays as it was, since nothing is in force. Refused: 13 if table_len
+ * is not PIM_TABLE_LEN or record_len is not PIM_RECORD_LEN; then 16 if table and count are no track.
+ */
+uint32_t pim_lookup(const int32_t *table, size_t table_len, size_t count, int32_t picture, int32_t *record, size_t record_len,
+                    uint32_t *found);
+
+/*
+ * Join two tracks in a third table: every number of either, in rising order, with b's record where both hold the number.
+ * Done: the table, with zeros past the points, and its count. Refused: 13 if a length is not PIM_TABLE_LEN; then 16 if a
+ * is no track; then 16 if b is none; then 15 if there are more than PIM_POINTS different numbers.
+ */
+uint32_t pim_join(const int32_t *a, size_t a_len, size_t a_count, const int32_t *b, size_t b_len, size_t b_count, int32_t *table,
+                  size_t table_len, uint32_t *count);
+
+#ifdef __cplusplus
+}
+#endif
+
+#endif

@@ -1,0 +1,344 @@
+//! One operation many times, for an instruction counter, and the stack that
+//! one call uses.
+//!
+//! Both implementations are called through the same interface with the same
+//! prepared arguments, so flat records and flat tables are made and taken apart
+//! on both sides.
+
+use crate::compare::Track;
+use crate::own;
+use crate::proved;
+use crate::record::{block_to_flat, flat, Block, Record, BARE_BYTES, EMPTY, FLAT};
+use crate::track::FLAT_TABLE;
+use std::mem::MaybeUninit;
+
+/// The operations of `bench`.
+pub const OPERATIONS: [&str; 8] = [
+    "read8", "read44", "read224", "write8", "write44", "write224", "lookup40", "join40",
+];
+
+/// The operations of `stack`.
+pub const STACK_OPERATIONS: [&str; 7] = [
+    "read8", "read224", "write224", "shader", "place", "lookup40", "join40",
+];
+
+// The functions of both implementations.
+type Read = fn(&[u8], &mut [i32], &mut u32) -> u32;
+type Write = fn(&[i32], &mut [u8], &mut u32) -> u32;
+type Shader = fn(&[i32], &mut [u32]) -> u32;
+type Place = fn(&[i32], i32, &mut [i32], &mut u32) -> u32;
+type Lookup = fn(&[i32], usize, i32, &mut [i32], &mut u32) -> u32;
+type Join = fn(&[i32], usize, &[i32], usize, &mut [i32], &mut u32) -> u32;
+
+fn level_1(n: u16) -> Block {
+    Block::Level1 {
+        min_pq: n,
+        max_pq: 3072,
+        avg_pq: 1024,
+    }
+}
+
+fn level_2(n: u16) -> Block {
+    Block::Level2 {
+        target_max_pq: 200 * n,
+        trim_slope: 2048,
+        trim_offset: 2048 + n,
+        trim_power: 2048,
+        trim_chroma_weight: 2048,
+        trim_saturation_gain: 2048 - n,
+        ms_weight: -1,
+    }
+}
+
+const LEVEL_5: Block = Block::Level5 {
+    left: 0,
+    right: 0,
+    top: 276,
+    bottom: 276,
+};
+
+fn holding(blocks: &[Block]) -> Record {
+    let mut record = EMPTY;
+    record.refresh = true;
+    record.count = blocks.len() as u8;
+    record.places[..blocks.len()].copy_from_slice(blocks);
+    record
+}
+
+/// The record of the operations of 8, 44 and 224 bytes: 01's example; level 1,
+/// two level 2, level 5; level 1, sixteen level 2, level 5.
+fn record(bytes: usize, n: u16) -> Record {
+    match bytes {
+        8 => holding(&[level_1(n)]),
+        44 => holding(&[level_1(n), level_2(1), level_2(2), LEVEL_5]),
+        _ => {
+            let mut blocks = vec![level_1(n)];
+            for i in 1..17 {
+                blocks.push(level_2(i));
+            }
+            blocks.push(LEVEL_5);
+            holding(&blocks)
+        }
+    }
+}
+
+/// A track of 40 points that begins at a picture; the records are those of
+/// 44 bytes.
+fn forty(first: i32) -> Track {
+    let mut made = Track::empty();
+    for i in 0..40 {
+        let record = flat(&record(44, i as u16));
+        made.table.set(i, first + i as i32, &record);
+    }
+    made.count = 40;
+    made
+}
+
+/// The payload of a record, and its flat record.
+fn payload(bytes: usize) -> (Vec<u8>, [i32; FLAT]) {
+    let numbers = flat(&record(bytes, 0));
+    let mut payload = vec![0; BARE_BYTES];
+    let mut written = 0;
+    let answer = own::write_bare(&numbers, &mut payload, &mut written);
+    assert_eq!((answer, written as usize), (0, bytes));
+    payload.truncate(bytes);
+    (payload, numbers)
+}
+
+/// The bytes of the payloads of an operation.
+fn bytes_of(operation: &str) -> usize {
+    let digits = operation.trim_start_matches(|c: char| !c.is_ascii_digit());
+    digits.parse().unwrap_or(0)
+}
+
+/// Takes the value where the compiler cannot see what it is.
+fn hidden<T: Copy>(value: T) -> T {
+    unsafe { std::ptr::read_volatile(&value) }
+}
+
+fn mix(sum: u64, number: u64) -> u64 {
+    (sum ^ number).wrapping_mul(0x0000_0100_0000_01B3)
+}
+
+/// Runs the operation n times and gives a checksum, which depends on every
+/// call.
+pub fn bench(operation: &str, own_one: bool, n: u64) -> Option<u64> {
+    let mut sum = 0;
+    match operation {
+        "read8" | "read44" | "read224" => {
+            let read: Read = hidden(if own_one {
+                own::read_bare
+            } else {
+                proved::read_bare
+            });
+            let (payload, _) = payload(bytes_of(operation));
+            let mut record = [0; FLAT];
+            let mut bits = 0;
+            for _ in 0..n {
+                let number = read(&payload, &mut record, &mut bits);
+                sum = mix(sum, (number + bits) as u64 + record[5] as u64);
+            }
+        }
+        "write8" | "write44" | "write224" => {
+            let write: Write = hidden(if own_one {
+                own::write_bare
+            } else {
+                proved::write_bare
+            });
+            let (_, record) = payload(bytes_of(operation));
+            let mut output = [0; BARE_BYTES];
+            let mut written = 0;
+            for _ in 0..n {
+                let number = write(&record, &mut output, &mut written);
+                sum = mix(sum, (number + written) as u64 + output[6] as u64);
+            }
+        }
+        "lookup40" => {
+            let lookup: Lookup = hidden(if own_one { own::lookup } else { proved::lookup });
+            // The last point: the record in force is found at the end.
+            let made = forty(1000);
+            let mut record = [0; FLAT];
+            let mut found = 0;
+            for _ in 0..n {
+                let table = &made.table.numbers;
+                let number = lookup(table, made.count, 1000 + 39, &mut record, &mut found);
+                sum = mix(sum, (number + found) as u64 + record[3] as u64);
+            }
+        }
+        "join40" => {
+            let join: Join = hidden(if own_one { own::join } else { proved::join });
+            // 40 and 40 that share 16 make 64.
+            let a = forty(1000);
+            let b = forty(1024);
+            let mut table = vec![0; FLAT_TABLE];
+            let mut count = 0;
+            for _ in 0..n {
+                let number = join(
+                    &a.table.numbers,
+                    a.count,
+                    &b.table.numbers,
+                    b.count,
+                    &mut table,
+                    &mut count,
+                );
+                sum = mix(sum, (number + count) as u64);
+            }
+        }
+        _ => return None,
+    }
+    Some(sum)
+}
+
+// ------------------------------------------------------------------- stack
+
+/// The painted words of the stack, 64 KiB.
+const PAINTED: usize = 8 * 1024;
+const PAINT: u64 = 0x5EA1_C0DE_0DD5_7ACC;
+
+/// Paints the stack below the caller and gives the address of the lowest
+/// painted word.
+#[inline(never)]
+fn paint() -> usize {
+    let mut words = MaybeUninit::<[u64; PAINTED]>::uninit();
+    let first = words.as_mut_ptr() as *mut u64;
+    for i in 0..PAINTED {
+        unsafe { first.add(i).write_volatile(PAINT) };
+    }
+    hidden(first) as usize
+}
+
+/// The lowest address at which the paint is gone.
+#[inline(never)]
+fn lowest(painted: usize) -> usize {
+    let first = hidden(painted) as *const u64;
+    for i in 0..PAINTED {
+        // The words lie below this function's frame, where nothing runs now.
+        let address = unsafe { first.add(i) };
+        if unsafe { address.read_volatile() } != PAINT {
+            assert!(i > 0, "the call used all of the painted stack");
+            return address as usize;
+        }
+    }
+    panic!("the call wrote nothing");
+}
+
+/// Calls from a place that lies surely within the painted words.
+#[inline(never)]
+fn deeper(call: &mut dyn FnMut()) {
+    let mut room = MaybeUninit::<[u64; 128]>::uninit();
+    hidden(room.as_mut_ptr());
+    call();
+    hidden(room.as_mut_ptr());
+}
+
+#[inline(never)]
+fn reached(call: &mut dyn FnMut()) -> usize {
+    let painted = paint();
+    deeper(call);
+    lowest(painted)
+}
+
+/// The bytes of the stack that a call uses, its return address with them: how
+/// much further down it writes than the same call of a function that does
+/// nothing, which on x86-64 leaves the 8 bytes of its return address and no
+/// more. What `proved.rs` puts between is a jump. The first call of all is not
+/// looked at.
+fn used<F: Copy>(function: F, nothing: F, mut call: impl FnMut(F)) -> usize {
+    let mut addresses = [0; 3];
+    for (i, &one) in [function, nothing, function].iter().enumerate() {
+        let one = hidden(one);
+        addresses[i] = reached(&mut || call(one));
+    }
+    addresses[1] + 8 - addresses[2]
+}
+
+/// The bytes of stack that one call uses.
+pub fn stack(operation: &str, own_one: bool) -> Option<usize> {
+    let mut number = 0;
+    let bytes = match operation {
+        "read8" | "read224" => {
+            let (payload, _) = payload(bytes_of(operation));
+            let mut record = [0; FLAT];
+            let function: Read = if own_one {
+                own::read_bare
+            } else {
+                proved::read_bare
+            };
+            used(
+                function,
+                |_, _, _| 0,
+                |read| number |= read(&payload, &mut record, &mut 0),
+            )
+        }
+        "write224" => {
+            let (_, record) = payload(224);
+            let mut output = [0; BARE_BYTES];
+            let function: Write = if own_one {
+                own::write_bare
+            } else {
+                proved::write_bare
+            };
+            used(
+                function,
+                |_, _, _| 0,
+                |write| number |= write(&record, &mut output, &mut 0),
+            )
+        }
+        "shader" => {
+            let block = block_to_flat(&level_2(1));
+            let mut bits = [0; 7];
+            let function: Shader = if own_one { own::shader } else { proved::shader };
+            used(
+                function,
+                |_, _| 0,
+                |shader| number |= shader(&block, &mut bits),
+            )
+        }
+        "place" => {
+            let (_, record) = payload(224);
+            let mut table = vec![0; FLAT_TABLE];
+            let function: Place = if own_one { own::place } else { proved::place };
+            used(
+                function,
+                |_, _, _, _| 0,
+                |place| number |= place(&record, 1000, &mut table, &mut 0),
+            )
+        }
+        "lookup40" => {
+            let made = forty(1000);
+            let mut record = [0; FLAT];
+            let function: Lookup = if own_one { own::lookup } else { proved::lookup };
+            used(
+                function,
+                |_, _, _, _, _| 0,
+                |lookup| {
+                    let table = &made.table.numbers;
+                    number |= lookup(table, made.count, 1000 + 39, &mut record, &mut 0);
+                },
+            )
+        }
+        "join40" => {
+            let a = forty(1000);
+            let b = forty(1024);
+            let mut table = vec![0; FLAT_TABLE];
+            let function: Join = if own_one { own::join } else { proved::join };
+            used(
+                function,
+                |_, _, _, _, _, _| 0,
+                |join| {
+                    number |= join(
+                        &a.table.numbers,
+                        a.count,
+                        &b.table.numbers,
+                        b.count,
+                        &mut table,
+                        &mut 0,
+                    )
+                },
+            )
+        }
+        _ => return None,
+    };
+    assert_eq!(number, 0);
+    Some(bytes)
+}

@@ -1,0 +1,889 @@
+//! Calls both implementations with the same arguments and compares everything:
+//! the result number, every element of every lent array, the elements around
+//! it, and the arguments that are only read. The first difference ends the
+//! program.
+//!
+//! Every array that is lent to be written is filled with a pattern first, and
+//! lies between elements that are not lent; so does every single number. Both
+//! implementations get the same pattern, so an element that one of them leaves
+//! alone must be left alone by the other.
+
+use crate::made::{point_record, Rng};
+use crate::own;
+use crate::proved;
+use crate::record::{flat, FLAT};
+use crate::track::{point_from_flat, FLAT_POINT, FLAT_TABLE};
+use crate::writer;
+
+/// The functions of the interface.
+#[derive(Clone, Copy, PartialEq, Eq)]
+pub enum Function {
+    ReadBare,
+    ReadWrapped,
+    WriteBare,
+    WriteWrapped,
+    Shader,
+    Place,
+    Lookup,
+    Join,
+}
+
+/// The functions with their names and the answers that can occur: 0, the
+/// refusals that 01 gives them, and 13 for an argument of a wrong length.
+pub const FUNCTIONS: [(Function, &str, &[u32]); 8] = [
+    (
+        Function::ReadBare,
+        "read_bare",
+        &[0, 1, 2, 4, 5, 6, 7, 8, 9, 10, 11, 12, 13],
+    ),
+    (
+        Function::ReadWrapped,
+        "read_wrapped",
+        &[0, 1, 2, 3, 4, 5, 6, 7, 8, 9, 10, 11, 12, 13],
+    ),
+    (Function::WriteBare, "write_bare", &[0, 13, 14]),
+    (Function::WriteWrapped, "write_wrapped", &[0, 13, 14]),
+    (Function::Shader, "shader", &[0, 13, 14]),
+    (Function::Place, "place", &[0, 13, 14]),
+    (Function::Lookup, "lookup", &[0, 13, 16]),
+    (Function::Join, "join", &[0, 13, 15, 16]),
+];
+
+/// A table as it crosses the interface: for each point its picture, then its
+/// flat record. It can have any number of numbers; only 64 points are right.
+#[derive(Clone, PartialEq, Eq)]
+pub struct Table {
+    pub numbers: Vec<i32>,
+}
+
+fn point_at(i: usize) -> std::ops::Range<usize> {
+    FLAT_POINT * i..FLAT_POINT * (i + 1)
+}
+
+impl Table {
+    /// 64 points of picture 0 with the empty record.
+    pub fn cleared() -> Table {
+        Table {
+            numbers: vec![0; FLAT_TABLE],
+        }
+    }
+
+    pub fn picture(&self, at: usize) -> i32 {
+        self.numbers[FLAT_POINT * at]
+    }
+
+    pub fn set(&mut self, at: usize, picture: i32, record: &[i32; FLAT]) {
+        self.numbers[FLAT_POINT * at] = picture;
+        self.set_record(at, record);
+    }
+
+    /// Another record at the same picture.
+    pub fn set_record(&mut self, at: usize, record: &[i32; FLAT]) {
+        self.numbers[point_at(at)][1..].copy_from_slice(record);
+    }
+
+    pub fn copy(&mut self, to: usize, other: &Table, from: usize) {
+        self.numbers[point_at(to)].copy_from_slice(&other.numbers[point_at(from)]);
+    }
+
+    pub fn copy_within(&mut self, to: usize, from: usize) {
+        self.numbers.copy_within(point_at(from), FLAT_POINT * to);
+    }
+
+    pub fn swap(&mut self, i: usize, j: usize) {
+        for k in 0..FLAT_POINT {
+            self.numbers.swap(FLAT_POINT * i + k, FLAT_POINT * j + k);
+        }
+    }
+
+    pub fn clear(&mut self, at: usize) {
+        self.numbers[point_at(at)].fill(0);
+    }
+
+    /// The first n numbers, or all of them and copies of the last point.
+    pub fn resized(&self, n: usize) -> Table {
+        let mut numbers = self.numbers.clone();
+        while numbers.len() < n {
+            numbers.extend_from_within(numbers.len() - FLAT_POINT..);
+        }
+        numbers.truncate(n);
+        Table { numbers }
+    }
+}
+
+#[derive(Clone)]
+pub struct Track {
+    pub table: Table,
+    pub count: usize,
+}
+
+impl Track {
+    pub fn empty() -> Track {
+        Track {
+            table: Table::cleared(),
+            count: 0,
+        }
+    }
+}
+
+/// Elements around a lent array that are not lent.
+const AROUND: usize = 4;
+/// Room for the longest flat record that is lent.
+const RECORD_ROOM: usize = 2 * FLAT + 2 * AROUND;
+/// Room for the longest output that is lent.
+const OUTPUT: usize = 512;
+const OUTPUT_ROOM: usize = OUTPUT + 2 * AROUND;
+/// Room for a single number, between others that are not lent.
+const SINGLE_ROOM: usize = 4;
+/// Numbers around a result table that are not lent: a point on each side.
+const AROUND_TABLE: usize = FLAT_POINT;
+/// Room for the longest result table that is lent.
+const TABLE_ROOM: usize = FLAT_TABLE + FLAT_POINT + 2 * AROUND_TABLE;
+
+pub struct Compare {
+    /// How often each function gave each number.
+    counts: [[u64; 17]; FUNCTIONS.len()],
+    /// Answers 0 of a lookup: nothing, a record.
+    found: [u64; 2],
+    /// Answers 0 of a placing: the empty track, a track of one point.
+    placed: [u64; 2],
+    /// Round trips that came back to the same bytes, to the same record.
+    round_trips: [u64; 2],
+    /// The part of the run and the case in it, for a failure's report.
+    part: String,
+    case: u64,
+    pattern: u32,
+    own_record: [i32; RECORD_ROOM],
+    proved_record: [i32; RECORD_ROOM],
+    own_output: [u8; OUTPUT_ROOM],
+    proved_output: [u8; OUTPUT_ROOM],
+    own_single: [u32; SINGLE_ROOM],
+    proved_single: [u32; SINGLE_ROOM],
+    /// Copies of what is lent for reading.
+    lent_bytes: Vec<u8>,
+    lent_record: Vec<i32>,
+    lent_a: Vec<i32>,
+    lent_b: Vec<i32>,
+    /// What result tables hold before a call: points, or any numbers.
+    before: [Vec<i32>; 2],
+    /// Which of the two it is in this call.
+    before_at: usize,
+    own_table: Vec<i32>,
+    proved_table: Vec<i32>,
+}
+
+fn hex(bytes: &[u8]) -> String {
+    let mut text = String::new();
+    for byte in bytes {
+        text.push_str(&format!("{:02X} ", byte));
+    }
+    text.trim_end().to_string()
+}
+
+/// Numbers as they are and as hex words, without the zeros at the end.
+fn numbers(list: &[i32]) -> String {
+    let used = list
+        .iter()
+        .rposition(|&n| n != 0)
+        .map_or(0, |last| last + 1);
+    let mut text = format!("{} numbers:", list.len());
+    for number in &list[..used] {
+        text.push_str(&format!(" {}", number));
+    }
+    text.push_str("\n    as hex:");
+    for number in &list[..used] {
+        text.push_str(&format!(" {:08X}", number));
+    }
+    if used < list.len() {
+        text.push_str(" and zeros");
+    }
+    text
+}
+
+/// A point: the picture and the record's bare payload, or the flat record if
+/// that is not valid.
+fn point(numbers_of_it: &[i32]) -> String {
+    let mut payload = [0; crate::record::BARE_BYTES];
+    if let Some(point) = point_from_flat(numbers_of_it) {
+        if let Ok(n) = writer::write_bare(&point.record, &mut payload) {
+            return format!("{:>11} {}", point.picture, hex(&payload[..n]));
+        }
+    }
+    format!(
+        "{:>11} no valid record, {}",
+        numbers_of_it[0],
+        numbers(&numbers_of_it[1..])
+    )
+}
+
+/// The points of a table up to the count.
+fn points(table: &[i32], count: usize) -> String {
+    let mut text = format!("{} numbers, count {}", table.len(), count);
+    for entry in table.chunks_exact(FLAT_POINT).take(count) {
+        text.push_str(&format!("\n    {}", point(entry)));
+    }
+    text
+}
+
+fn first_difference<T: PartialEq + std::fmt::Debug>(
+    what: &str,
+    around: usize,
+    own: &[T],
+    proved: &[T],
+) -> String {
+    for i in 0..own.len() {
+        if own[i] != proved[i] {
+            return format!(
+                "  {}[{}]: own {:?}, proved {:?}\n",
+                what,
+                i as i64 - around as i64,
+                own[i],
+                proved[i]
+            );
+        }
+    }
+    String::new()
+}
+
+/// Says so if what was lent for reading only is not as it was.
+fn changed<T: PartialEq>(what: &str, before: &[T], after: &[T]) -> String {
+    if before == after {
+        return String::new();
+    }
+    format!("  proved changed what was lent for reading: {}\n", what)
+}
+
+impl Compare {
+    pub fn new() -> Compare {
+        let mut compare = Compare {
+            counts: [[0; 17]; FUNCTIONS.len()],
+            found: [0; 2],
+            placed: [0; 2],
+            round_trips: [0; 2],
+            part: String::new(),
+            case: 0,
+            pattern: 1,
+            own_record: [0; RECORD_ROOM],
+            proved_record: [0; RECORD_ROOM],
+            own_output: [0; OUTPUT_ROOM],
+            proved_output: [0; OUTPUT_ROOM],
+            own_single: [0; SINGLE_ROOM],
+            proved_single: [0; SINGLE_ROOM],
+            lent_bytes: Vec::new(),
+            lent_record: Vec::new(),
+            lent_a: Vec::new(),
+            lent_b: Vec::new(),
+            before: [Vec::new(), Vec::new()],
+            before_at: 0,
+            own_table: vec![0; TABLE_ROOM],
+            proved_table: vec![0; TABLE_ROOM],
+        };
+        let mut rng = Rng::new(0x0B5E_55ED);
+        for i in 0..TABLE_ROOM / FLAT_POINT {
+            compare.before[0].push(7 * i as i32 - 1000);
+            compare.before[0].extend_from_slice(&flat(&point_record(&mut rng)));
+        }
+        for _ in 0..TABLE_ROOM {
+            compare.before[1].push(rng.next() as i32);
+        }
+        compare
+    }
+
+    pub fn begin(&mut self, part: String) {
+        self.part = part;
+        self.case = 0;
+    }
+
+    fn next_case(&mut self) {
+        self.case += 1;
+        self.pattern = self
+            .pattern
+            .wrapping_mul(1_664_525)
+            .wrapping_add(1_013_904_223);
+        let mut value = self.pattern | 0x4000_0000;
+        for i in 0..SINGLE_ROOM {
+            value = value.wrapping_add(0x9E37_79B9);
+            self.own_single[i] = value;
+        }
+        self.proved_single = self.own_single;
+    }
+
+    fn fill_records(&mut self) {
+        let mut value = self.pattern;
+        for number in self.own_record.iter_mut() {
+            value = value.wrapping_add(0x9E37_79B9);
+            *number = value as i32;
+        }
+        self.proved_record = self.own_record;
+    }
+
+    fn fill_outputs(&mut self, n: usize) {
+        let mut value = self.pattern;
+        for byte in self.own_output[..n + 2 * AROUND].iter_mut() {
+            value = value.wrapping_add(0x9E37_79B9);
+            *byte = (value >> 24) as u8;
+        }
+        self.proved_output[..n + 2 * AROUND].copy_from_slice(&self.own_output[..n + 2 * AROUND]);
+    }
+
+    fn count(&mut self, function: Function, number: u32) {
+        self.counts[function as usize][number as usize] += 1;
+    }
+
+    /// Reports a difference and ends the program.
+    pub fn fail(&self, what: &str, case: &str, answers: &str) -> ! {
+        println!("DIFFERENT: {}", what);
+        println!("in {}, call {}", self.part, self.case);
+        println!("{}", case.trim_end());
+        println!("{}", answers.trim_end());
+        std::process::exit(1);
+    }
+
+    // ------------------------------------------------------------- reading
+
+    /// Reads, and writes what was read back to the same bytes.
+    pub fn read(&mut self, wrapped: bool, input: &[u8]) -> u32 {
+        let number = self.read_lent(wrapped, input, FLAT);
+        if number == 0 {
+            let mut record = [0; FLAT];
+            record.copy_from_slice(&self.own_record[AROUND..AROUND + FLAT]);
+            let answer = self.write_lent(wrapped, &record, input.len());
+            if answer != 0 || self.own_output[AROUND..AROUND + input.len()] != *input {
+                self.fail(
+                    "what was read is not written back to the same bytes",
+                    &format!("input: {}", hex(input)),
+                    &format!("written: result {}", answer),
+                );
+            }
+            self.round_trips[0] += 1;
+        }
+        number
+    }
+
+    /// Reads into a record of any length.
+    pub fn read_lent(&mut self, wrapped: bool, input: &[u8], record_len: usize) -> u32 {
+        self.next_case();
+        self.fill_records();
+        self.lent_bytes.clear();
+        self.lent_bytes.extend_from_slice(input);
+        let lent = AROUND..AROUND + record_len;
+        let own_record = &mut self.own_record[lent.clone()];
+        let own_single = &mut self.own_single[1];
+        let proved_record = &mut self.proved_record[lent];
+        let proved_single = &mut self.proved_single[1];
+        let (function, own_number, proved_number) = if wrapped {
+            (
+                Function::ReadWrapped,
+                own::read_wrapped(input, own_record, own_single),
+                proved::read_wrapped(&self.lent_bytes, proved_record, proved_single),
+            )
+        } else {
+            (
+                Function::ReadBare,
+                own::read_bare(input, own_record, own_single),
+                proved::read_bare(&self.lent_bytes, proved_record, proved_single),
+            )
+        };
+        if own_number != proved_number
+            || self.own_record != self.proved_record
+            || self.own_single != self.proved_single
+            || self.lent_bytes != input
+        {
+            self.fail(
+                FUNCTIONS[function as usize].1,
+                &format!(
+                    "input ({} bytes): {}\nrecord lent with length {}",
+                    input.len(),
+                    hex(input),
+                    record_len
+                ),
+                &(self.answers(own_number, proved_number)
+                    + &changed("the input", input, &self.lent_bytes)),
+            );
+        }
+        self.count(function, own_number);
+        own_number
+    }
+
+    /// The flat record of the last reading or lookup that gave one.
+    pub fn record(&self) -> &[i32] {
+        &self.own_record[AROUND..AROUND + FLAT]
+    }
+
+    /// The single number of the last call that gave one.
+    pub fn single(&self) -> u32 {
+        self.own_single[1]
+    }
+
+    fn answers(&self, own_number: u32, proved_number: u32) -> String {
+        let mut text = format!("own:    result {}\n", own_number);
+        if own_number == 0 {
+            text.push_str(&format!("    single number {}\n", self.own_single[1]));
+            text.push_str(&format!("    record: {}\n", numbers(self.record())));
+        }
+        text.push_str(&format!("proved: result {}\n", proved_number));
+        if proved_number == 0 {
+            let record = &self.proved_record[AROUND..AROUND + FLAT];
+            text.push_str(&format!("    single number {}\n", self.proved_single[1]));
+            text.push_str(&format!("    record: {}\n", numbers(record)));
+        }
+        text.push_str("first different element of each lent array, places counted from 0:\n");
+        text.push_str(&first_difference(
+            "record",
+            AROUND,
+            &self.own_record,
+            &self.proved_record,
+        ));
+        text.push_str(&first_difference(
+            "single number",
+            1,
+            &self.own_single,
+            &self.proved_single,
+        ));
+        text.push_str(&first_difference(
+            "output",
+            AROUND,
+            &self.own_output,
+            &self.proved_output,
+        ));
+        text
+    }
+
+    // ------------------------------------------------------------- writing
+
+    /// Writes, and reads what was written back to the same record.
+    pub fn write(&mut self, wrapped: bool, record: &[i32], out_len: usize) -> u32 {
+        let number = self.write_lent(wrapped, record, out_len);
+        if number == 0 {
+            let written = self.single() as usize;
+            let mut payload = [0; OUTPUT];
+            payload[..written].copy_from_slice(&self.own_output[AROUND..AROUND + written]);
+            let answer = self.read_lent(wrapped, &payload[..written], FLAT);
+            if answer != 0 || self.record() != record {
+                self.fail(
+                    "what was written is not read back to the same record",
+                    &format!("record: {}", numbers(record)),
+                    &format!(
+                        "written: {}\nread: result {}",
+                        hex(&payload[..written]),
+                        answer
+                    ),
+                );
+            }
+            self.round_trips[1] += 1;
+        }
+        number
+    }
+
+    /// Writes a record of any length into an output of any length.
+    pub fn write_lent(&mut self, wrapped: bool, record: &[i32], out_len: usize) -> u32 {
+        self.next_case();
+        self.fill_outputs(out_len);
+        self.lent_record.clear();
+        self.lent_record.extend_from_slice(record);
+        let lent = AROUND..AROUND + out_len;
+        let room = out_len + 2 * AROUND;
+        let own_output = &mut self.own_output[lent.clone()];
+        let own_single = &mut self.own_single[1];
+        let proved_output = &mut self.proved_output[lent];
+        let proved_single = &mut self.proved_single[1];
+        let (function, own_number, proved_number) = if wrapped {
+            (
+                Function::WriteWrapped,
+                own::write_wrapped(record, own_output, own_single),
+                proved::write_wrapped(&self.lent_record, proved_output, proved_single),
+            )
+        } else {
+            (
+                Function::WriteBare,
+                own::write_bare(record, own_output, own_single),
+                proved::write_bare(&self.lent_record, proved_output, proved_single),
+            )
+        };
+        if own_number != proved_number
+            || self.own_output[..room] != self.proved_output[..room]
+            || self.own_single != self.proved_single
+            || self.lent_record != record
+        {
+            let mut answers = format!(
+                "own:    result {}, single number {}, output {}\n",
+                own_number,
+                self.own_single[1],
+                hex(&self.own_output[AROUND..AROUND + out_len])
+            );
+            answers.push_str(&format!(
+                "proved: result {}, single number {}, output {}\n",
+                proved_number,
+                self.proved_single[1],
+                hex(&self.proved_output[AROUND..AROUND + out_len])
+            ));
+            answers.push_str(&first_difference(
+                "output",
+                AROUND,
+                &self.own_output[..room],
+                &self.proved_output[..room],
+            ));
+            answers.push_str(&first_difference(
+                "single number",
+                1,
+                &self.own_single,
+                &self.proved_single,
+            ));
+            answers.push_str(&changed("the record", record, &self.lent_record));
+            self.fail(
+                FUNCTIONS[function as usize].1,
+                &format!("record: {}\noutput of {} bytes", numbers(record), out_len),
+                &answers,
+            );
+        }
+        self.count(function, own_number);
+        own_number
+    }
+
+    // -------------------------------------------------------------- shader
+
+    /// Converts a flat block of any length into numbers of any count up to 8.
+    pub fn shader(&mut self, block: &[i32], bits_len: usize) -> (u32, [u32; 7]) {
+        self.next_case();
+        let mut own_bits = [0; 8 + 2 * AROUND];
+        let mut value = self.pattern;
+        for number in own_bits.iter_mut() {
+            value = value.wrapping_add(0x9E37_79B9);
+            *number = value;
+        }
+        let mut proved_bits = own_bits;
+        let lent = AROUND..AROUND + bits_len;
+        let copy = block.to_vec();
+        let own_number = own::shader(block, &mut own_bits[lent.clone()]);
+        let proved_number = proved::shader(&copy, &mut proved_bits[lent]);
+        if own_number != proved_number || own_bits != proved_bits || copy != block {
+            self.fail(
+                FUNCTIONS[Function::Shader as usize].1,
+                &format!(
+                    "block: {}\n{} numbers lent for the bits",
+                    numbers(block),
+                    bits_len
+                ),
+                &format!(
+                    "own:    result {}, bits {:08X?}\nproved: result {}, bits {:08X?}\n{}{}",
+                    own_number,
+                    &own_bits[AROUND..AROUND + bits_len],
+                    proved_number,
+                    &proved_bits[AROUND..AROUND + bits_len],
+                    first_difference("bits", AROUND, &own_bits, &proved_bits),
+                    changed("the block", block, &copy)
+                ),
+            );
+        }
+        self.count(Function::Shader, own_number);
+        let mut seven = [0; 7];
+        seven.copy_from_slice(&own_bits[AROUND..AROUND + 7]);
+        (own_number, seven)
+    }
+
+    // -------------------------------------------------------------- tracks
+
+    /// Compares the result tables after a placing or a join, number by number,
+    /// and the numbers around them; says what differs. A refusal leaves all of
+    /// them as they were, and 0 leaves zeros past the count.
+    fn result_differs(&self, number: u32) -> Option<String> {
+        let mut text = String::new();
+        if self.own_table != self.proved_table {
+            text.push_str(&first_difference(
+                "table",
+                AROUND_TABLE,
+                &self.own_table,
+                &self.proved_table,
+            ));
+            let at = (0..TABLE_ROOM).find(|&i| self.own_table[i] != self.proved_table[i]);
+            let entry = at.unwrap_or(0) / FLAT_POINT;
+            text.push_str(&format!(
+                "  that is in entry {}, counted from 0 (-1: before the table)\n\
+                 own    {}\nproved {}\n",
+                entry as i64 - 1,
+                point(&self.own_table[point_at(entry)]),
+                point(&self.proved_table[point_at(entry)])
+            ));
+        }
+        if number != 0 {
+            if self.proved_table != self.before[self.before_at] {
+                text.push_str("  the call is refused, and the result table is not as it was\n");
+            }
+        } else {
+            let past = FLAT_POINT * self.single() as usize..FLAT_TABLE;
+            let table = &self.proved_table[AROUND_TABLE..AROUND_TABLE + FLAT_TABLE];
+            if table[past].iter().any(|&number| number != 0) {
+                text.push_str("  a number past the count is not 0\n");
+            }
+        }
+        if text.is_empty() {
+            None
+        } else {
+            Some(text)
+        }
+    }
+
+    fn table_answers(
+        &self,
+        own_number: u32,
+        proved_number: u32,
+        difference: Option<String>,
+    ) -> String {
+        let mut text = format!(
+            "own:    result {}, count {}\nproved: result {}, count {}\n",
+            own_number, self.own_single[1], proved_number, self.proved_single[1]
+        );
+        if own_number != 0 || proved_number != 0 {
+            text.push_str("  (a refused call leaves the count as it was)\n");
+        }
+        text.push_str(&first_difference(
+            "count",
+            1,
+            &self.own_single,
+            &self.proved_single,
+        ));
+        text.push_str(&difference.unwrap_or_default());
+        text
+    }
+
+    fn fill_results(&mut self) {
+        self.before_at = (self.pattern >> 16) as usize % 2;
+        let before = &self.before[self.before_at];
+        self.own_table.copy_from_slice(before);
+        self.proved_table.copy_from_slice(before);
+    }
+
+    fn result_track(&self) -> Track {
+        Track {
+            table: Table {
+                numbers: self.own_table[AROUND_TABLE..AROUND_TABLE + FLAT_TABLE].to_vec(),
+            },
+            count: self.single() as usize,
+        }
+    }
+
+    /// Places a record of any length at a picture, in a table of any length.
+    pub fn place_lent(
+        &mut self,
+        record: &[i32],
+        picture: i32,
+        table_len: usize,
+    ) -> (u32, Option<Track>) {
+        self.next_case();
+        self.fill_results();
+        self.lent_record.clear();
+        self.lent_record.extend_from_slice(record);
+        let lent = AROUND_TABLE..AROUND_TABLE + table_len;
+        let own_number = own::place(
+            record,
+            picture,
+            &mut self.own_table[lent.clone()],
+            &mut self.own_single[1],
+        );
+        let proved_number = proved::place(
+            &self.lent_record,
+            picture,
+            &mut self.proved_table[lent],
+            &mut self.proved_single[1],
+        );
+        let mut difference = None;
+        if own_number == proved_number && self.own_single == self.proved_single {
+            difference = self.result_differs(own_number);
+        }
+        if own_number != proved_number
+            || self.own_single != self.proved_single
+            || difference.is_some()
+            || self.lent_record != record
+        {
+            self.fail(
+                FUNCTIONS[Function::Place as usize].1,
+                &format!(
+                    "record: {}\npicture {}, table of {} numbers",
+                    numbers(record),
+                    picture,
+                    table_len
+                ),
+                &(self.table_answers(own_number, proved_number, difference)
+                    + &changed("the record", record, &self.lent_record)),
+            );
+        }
+        self.count(Function::Place, own_number);
+        if own_number != 0 {
+            return (own_number, None);
+        }
+        self.placed[self.single() as usize] += 1;
+        (0, Some(self.result_track()))
+    }
+
+    pub fn place(&mut self, record: &[i32], picture: i32) -> (u32, Option<Track>) {
+        self.place_lent(record, picture, FLAT_TABLE)
+    }
+
+    pub fn lookup(&mut self, table: &Table, count: usize, picture: i32) -> u32 {
+        self.lookup_lent(table, count, picture, FLAT)
+    }
+
+    /// Looks up in a table of any length, into a record of any length.
+    pub fn lookup_lent(
+        &mut self,
+        table: &Table,
+        count: usize,
+        picture: i32,
+        record_len: usize,
+    ) -> u32 {
+        self.next_case();
+        self.fill_records();
+        self.lent_a.clear();
+        self.lent_a.extend_from_slice(&table.numbers);
+        let lent = AROUND..AROUND + record_len;
+        let own_number = own::lookup(
+            &table.numbers,
+            count,
+            picture,
+            &mut self.own_record[lent.clone()],
+            &mut self.own_single[1],
+        );
+        let proved_number = proved::lookup(
+            &self.lent_a,
+            count,
+            picture,
+            &mut self.proved_record[lent],
+            &mut self.proved_single[1],
+        );
+        if own_number != proved_number
+            || self.own_record != self.proved_record
+            || self.own_single != self.proved_single
+            || self.lent_a != table.numbers
+        {
+            self.fail(
+                FUNCTIONS[Function::Lookup as usize].1,
+                &format!(
+                    "picture {}, record lent with length {}\ntable: {}",
+                    picture,
+                    record_len,
+                    points(&table.numbers, count)
+                ),
+                &(self.answers(own_number, proved_number)
+                    + &changed("the table", &table.numbers, &self.lent_a)),
+            );
+        }
+        self.count(Function::Lookup, own_number);
+        if own_number == 0 {
+            self.found[self.single() as usize] += 1;
+        }
+        own_number
+    }
+
+    pub fn join(&mut self, a: &Track, b: &Track) -> (u32, Option<Track>) {
+        self.join_lent(&a.table, a.count, &b.table, b.count, FLAT_TABLE)
+    }
+
+    /// Joins tables of any length, with any counts, into a table of any length.
+    pub fn join_lent(
+        &mut self,
+        a: &Table,
+        a_count: usize,
+        b: &Table,
+        b_count: usize,
+        table_len: usize,
+    ) -> (u32, Option<Track>) {
+        self.next_case();
+        self.fill_results();
+        self.lent_a.clear();
+        self.lent_a.extend_from_slice(&a.numbers);
+        self.lent_b.clear();
+        self.lent_b.extend_from_slice(&b.numbers);
+        let lent = AROUND_TABLE..AROUND_TABLE + table_len;
+        let own_number = own::join(
+            &a.numbers,
+            a_count,
+            &b.numbers,
+            b_count,
+            &mut self.own_table[lent.clone()],
+            &mut self.own_single[1],
+        );
+        let proved_number = proved::join(
+            &self.lent_a,
+            a_count,
+            &self.lent_b,
+            b_count,
+            &mut self.proved_table[lent],
+            &mut self.proved_single[1],
+        );
+        let mut difference = None;
+        if own_number == proved_number && self.own_single == self.proved_single {
+            difference = self.result_differs(own_number);
+        }
+        if own_number != proved_number
+            || self.own_single != self.proved_single
+            || difference.is_some()
+            || self.lent_a != a.numbers
+            || self.lent_b != b.numbers
+        {
+            self.fail(
+                FUNCTIONS[Function::Join as usize].1,
+                &format!(
+                    "first: {}\nsecond: {}\nresult table of {} numbers",
+                    points(&a.numbers, a_count),
+                    points(&b.numbers, b_count),
+                    table_len
+                ),
+                &(self.table_answers(own_number, proved_number, difference)
+                    + &changed("the first table", &a.numbers, &self.lent_a)
+                    + &changed("the second table", &b.numbers, &self.lent_b)),
+            );
+        }
+        self.count(Function::Join, own_number);
+        if own_number != 0 {
+            return (own_number, None);
+        }
+        (0, Some(self.result_track()))
+    }
+
+    // -------------------------------------------------------------- counts
+
+    pub fn joins_and_lookups(&self) -> u64 {
+        let joins: u64 = self.counts[Function::Join as usize].iter().sum();
+        let lookups: u64 = self.counts[Function::Lookup as usize].iter().sum();
+        joins + lookups
+    }
+
+    /// Prints how often each function gave each number. Fails if one that can
+    /// occur did not.
+    pub fn report(&self) -> bool {
+        let mut complete = true;
+        println!("how often each function gave each number:");
+        for (function, name, possible) in FUNCTIONS {
+            let counts = &self.counts[function as usize];
+            let mut text = String::new();
+            for (number, &times) in counts.iter().enumerate() {
+                let can_occur = possible.contains(&(number as u32));
+                if can_occur || times > 0 {
+                    text.push_str(&format!("  {}:{}", number, times));
+                }
+                if can_occur && times == 0 {
+                    complete = false;
+                }
+            }
+            println!("  {:<14}{}", name, text);
+        }
+        println!(
+            "  lookups with answer 0: {} nothing, {} a record",
+            self.found[0], self.found[1]
+        );
+        println!(
+            "  placings with answer 0: {} the empty track, {} one point",
+            self.placed[0], self.placed[1]
+        );
+        println!(
+            "  round trips: {} from bytes, {} from records",
+            self.round_trips[0], self.round_trips[1]
+        );
+        for count in [self.found, self.placed, self.round_trips] {
+            if count.contains(&0) {
+                complete = false;
+            }
+        }
+        complete
+    }
+}

@@ -1,0 +1,122 @@
+//! An independent second implementation of the record, its reader and writer,
+//! the shader numbers and the tracks, written from 01 and A/341 alone, and its
+//! comparison with the proved library. See README.md.
+
+// The entry is C's `main`, not Rust's. Before Rust's `main` the runtime asks
+// for the bounds of the stack, glibc reads /proc/self/maps for it, and the
+// emulator under which this program runs on other machines than x86-64
+// (qemu-x86_64 8.2.2) crashes when that file is opened.
+#![no_main]
+
+mod bench;
+mod compare;
+mod listed;
+mod made;
+mod own;
+mod proved;
+mod reader;
+mod record;
+mod runs;
+mod shader;
+mod track;
+mod writer;
+
+use compare::Compare;
+use std::os::raw::{c_char, c_int};
+
+/// Joins and lookups of one round, at least.
+const JOINS_AND_LOOKUPS: u64 = 110_000;
+/// Rounds of `second many`.
+const MANY: u64 = 100;
+
+fn usage() -> c_int {
+    eprintln!("usage: second            compares, one round");
+    eprintln!("       second many       compares, {} rounds", MANY);
+    eprintln!("       second bench OP IMPL N");
+    eprintln!("         OP   {}", bench::OPERATIONS.join(", "));
+    eprintln!("         IMPL own, proved");
+    eprintln!("       second stack OP IMPL");
+    eprintln!("         OP   {}", bench::STACK_OPERATIONS.join(", "));
+    2
+}
+
+fn is_own(implementation: &str) -> Option<bool> {
+    match implementation {
+        "own" => Some(true),
+        "proved" => Some(false),
+        _ => None,
+    }
+}
+
+#[no_mangle]
+pub extern "C" fn main(_argc: c_int, _argv: *const *const c_char) -> c_int {
+    let arguments: Vec<String> = std::env::args().skip(1).collect();
+    let words: Vec<&str> = arguments.iter().map(String::as_str).collect();
+    match words[..] {
+        [] => compare_all(1),
+        ["many"] => compare_all(MANY),
+        ["bench", operation, implementation, n] => match (is_own(implementation), n.parse()) {
+            (Some(own_one), Ok(n)) => match bench::bench(operation, own_one, n) {
+                Some(sum) => {
+                    println!("{:016X}", sum);
+                    0
+                }
+                None => usage(),
+            },
+            _ => usage(),
+        },
+        ["stack", operation, implementation] => match is_own(implementation) {
+            Some(own_one) => match bench::stack(operation, own_one) {
+                Some(bytes) => {
+                    println!("{}", bytes);
+                    0
+                }
+                None => usage(),
+            },
+            None => usage(),
+        },
+        _ => usage(),
+    }
+}
+
+fn compare_all(rounds: u64) -> c_int {
+    let mut compare = Compare::new();
+    let listed = listed::compare_listed(&mut compare);
+    println!("listed payloads: {}", listed);
+    let small = runs::small_inputs(&mut compare);
+    println!("inputs of 0, 1 and 2 bytes: {}", small);
+    for round in 0..rounds {
+        let payloads = runs::made_payloads(&mut compare, round);
+        let flips = runs::bit_flips(&mut compare, round);
+        let writes = runs::made_writes(&mut compare, round);
+        let blocks = runs::shader_numbers(&mut compare, round);
+        let placings = runs::placings(&mut compare, round);
+        println!(
+            "round {}: {} made inputs ({} payloads, {} bit flips, {} writes, {} blocks, {} placings)",
+            round,
+            payloads + flips + writes + blocks + placings,
+            payloads,
+            flips,
+            writes,
+            blocks,
+            placings
+        );
+        let before = compare.joins_and_lookups();
+        runs::full_tracks(&mut compare, round);
+        let tables = runs::flat_points(&mut compare, round);
+        let pairs = runs::tracks(&mut compare, round, JOINS_AND_LOOKUPS);
+        println!(
+            "round {}: {} joins and lookups over {} pairs of tracks and {} tables of made points",
+            round,
+            compare.joins_and_lookups() - before,
+            pairs,
+            tables
+        );
+    }
+    if !compare.report() {
+        println!("FAILED: an answer that can occur did not");
+        return 1;
+    }
+    println!("no difference");
+    0
+}

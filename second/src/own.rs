@@ -1,0 +1,184 @@
+//! This program's own answers behind the interface of the proved archive
+//! (`proved.rs` has the same functions with the same arguments): flat records,
+//! flat tables, a result number, and lent arrays that stay as they were on a
+//! refusal.
+//!
+//! Two rules belong to that interface and not to 01. An argument of a wrong
+//! length is refused with 13 before everything else: a record, a block, the
+//! bits of the shader numbers, and every table, so that 16 is never the answer
+//! to a table's length. A flat record that names no record is treated as one
+//! that is not valid, in a point too. The lengths of the bytes to be written
+//! are 01's business and keep 01's order (14 before 13).
+
+use crate::reader;
+use crate::record::{block_from_flat, from_flat, to_flat, Record, FLAT, FLAT_BLOCK};
+use crate::shader;
+use crate::track::{self, point_from_flat, table_to_flat, Point};
+use crate::track::{CLEARED, FLAT_POINT, FLAT_TABLE, POINTS};
+use crate::writer;
+
+fn give_read(answer: Result<(Record, u32), u32>, record: &mut [i32], bits: &mut u32) -> u32 {
+    match answer {
+        Ok((read, count)) => {
+            to_flat(&read, record);
+            *bits = count;
+            0
+        }
+        Err(refusal) => refusal,
+    }
+}
+
+#[inline(never)]
+pub fn read_bare(input: &[u8], record: &mut [i32], bits: &mut u32) -> u32 {
+    if record.len() != FLAT {
+        return 13;
+    }
+    give_read(reader::read_bare(input), record, bits)
+}
+
+#[inline(never)]
+pub fn read_wrapped(input: &[u8], record: &mut [i32], bits: &mut u32) -> u32 {
+    if record.len() != FLAT {
+        return 13;
+    }
+    give_read(reader::read_wrapped(input), record, bits)
+}
+
+fn give_number(answer: Result<usize, u32>, number: &mut u32) -> u32 {
+    match answer {
+        Ok(done) => {
+            *number = done as u32;
+            0
+        }
+        Err(refusal) => refusal,
+    }
+}
+
+#[inline(never)]
+pub fn write_bare(record: &[i32], out: &mut [u8], written: &mut u32) -> u32 {
+    if record.len() != FLAT {
+        return 13;
+    }
+    match from_flat(record) {
+        Some(named) => give_number(writer::write_bare(&named, out), written),
+        None => 14,
+    }
+}
+
+#[inline(never)]
+pub fn write_wrapped(record: &[i32], out: &mut [u8], written: &mut u32) -> u32 {
+    if record.len() != FLAT {
+        return 13;
+    }
+    match from_flat(record) {
+        Some(named) => give_number(writer::write_wrapped(&named, out), written),
+        None => 14,
+    }
+}
+
+#[inline(never)]
+pub fn shader(block: &[i32], bits: &mut [u32]) -> u32 {
+    if block.len() != FLAT_BLOCK || bits.len() != 7 {
+        return 13;
+    }
+    let answer = match block_from_flat(block) {
+        Some(named) => shader::shader(&named),
+        None => Err(14),
+    };
+    match answer {
+        Ok(numbers) => {
+            bits.copy_from_slice(&numbers);
+            0
+        }
+        Err(refusal) => refusal,
+    }
+}
+
+/// The table whose points inside the count are these, or none if one of them
+/// has numbers that name no record. What lies past the count is not looked at.
+fn points(table: &[i32], count: usize) -> Option<Vec<Point>> {
+    let mut points = vec![CLEARED; POINTS];
+    for (i, point) in points.iter_mut().enumerate().take(count) {
+        let at = FLAT_POINT * i;
+        *point = point_from_flat(&table[at..at + FLAT_POINT])?;
+    }
+    Some(points)
+}
+
+/// The table and the count, if they are given; on a refusal neither changes.
+fn give_table(
+    answer: Result<usize, u32>,
+    points: &[Point],
+    table: &mut [i32],
+    count: &mut u32,
+) -> u32 {
+    if answer.is_ok() {
+        table_to_flat(points, table);
+    }
+    give_number(answer, count)
+}
+
+#[inline(never)]
+pub fn place(record: &[i32], picture: i32, table: &mut [i32], count: &mut u32) -> u32 {
+    if record.len() != FLAT || table.len() != FLAT_TABLE {
+        return 13;
+    }
+    let mut made = vec![CLEARED; POINTS];
+    match from_flat(record) {
+        Some(named) => {
+            let answer = track::place(&named, picture, &mut made);
+            give_table(answer, &made, table, count)
+        }
+        None => 14,
+    }
+}
+
+#[inline(never)]
+pub fn lookup(
+    table: &[i32],
+    count: usize,
+    picture: i32,
+    record: &mut [i32],
+    found: &mut u32,
+) -> u32 {
+    if record.len() != FLAT || table.len() != FLAT_TABLE {
+        return 13;
+    }
+    let table = match points(table, count) {
+        Some(table) => table,
+        None => return 16,
+    };
+    match track::lookup(&table, count, picture) {
+        Ok(Some(in_force)) => {
+            to_flat(in_force, record);
+            *found = 1;
+            0
+        }
+        Ok(None) => {
+            *found = 0;
+            0
+        }
+        Err(refusal) => refusal,
+    }
+}
+
+#[inline(never)]
+pub fn join(
+    a: &[i32],
+    a_count: usize,
+    b: &[i32],
+    b_count: usize,
+    table: &mut [i32],
+    count: &mut u32,
+) -> u32 {
+    if a.len() != FLAT_TABLE || b.len() != FLAT_TABLE || table.len() != FLAT_TABLE {
+        return 13;
+    }
+    let (a, b) = match (points(a, a_count), points(b, b_count)) {
+        (Some(a), Some(b)) => (a, b),
+        _ => return 16,
+    };
+    let mut made = vec![CLEARED; POINTS];
+    let answer = track::join(&a, a_count, &b, b_count, &mut made);
+    give_table(answer, &made, table, count)
+}
