@@ -17,6 +17,8 @@ static void expect(int holds, const char *what)
 
 /* A level 1 and a level 2 block, and their payload, worked out by hand. */
 static const int32_t two_blocks[PIM_RECORD_LEN] = {1, 2, 1, 0, 3072, 1024, 0, 0, 0, 0, 2, 2048, 4095, 1, 2, 3, 4, -1};
+static const uint8_t payload[] = {0x5B, 0x30, 0x08, 0x00, 0x60, 0x02, 0x00, 0x00, 0xC0, 0x28, 0x00,
+                                  0xFF, 0xF0, 0x01, 0x00, 0x20, 0x03, 0x00, 0x4F, 0xFF, 0x80};
 
 static int32_t record[PIM_RECORD_LEN], old_record[PIM_RECORD_LEN];
 static int32_t first[PIM_TABLE_LEN], second[PIM_TABLE_LEN], table[PIM_TABLE_LEN], old_table[PIM_TABLE_LEN], zeros[PIM_TABLE_LEN];
@@ -27,7 +29,8 @@ static void reading_and_writing(void)
     uint32_t written = 7, bits = 7;
     memset(bytes, 0xEE, sizeof bytes);
     expect(pim_write_wrapped(two_blocks, PIM_RECORD_LEN, bytes, sizeof bytes, &written) == 0, "write wrapped");
-    expect(memcmp(bytes, "\xB5\x00\x31\x47\x41\x39\x34\x09", 8) == 0 && bytes[written] == 0xEE, "the wrapper, and later bytes stay");
+    expect(written == 8 + sizeof payload && bytes[written] == 0xEE, "the bytes written, and later ones stay");
+    expect(memcmp(bytes, "\xB5\x00\x31\x47\x41\x39\x34\x09", 8) == 0 && memcmp(bytes + 8, payload, sizeof payload) == 0, "the payload");
     expect(pim_read_wrapped(bytes, written, record, PIM_RECORD_LEN, &bits) == 0, "read wrapped");
     expect(memcmp(record, two_blocks, sizeof record) == 0, "what was written is read");
     expect(bits == 8 * (written - 8), "bits read, without the wrapper");

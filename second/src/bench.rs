@@ -9,7 +9,7 @@ use crate::compare::Track;
 use crate::own;
 use crate::proved;
 use crate::record::{block_to_flat, flat, Block, Record, BARE_BYTES, EMPTY, FLAT};
-use crate::track::FLAT_TABLE;
+use crate::track::{Point, FLAT_TABLE, POINTS};
 use std::mem::MaybeUninit;
 
 /// The operations of `bench`.
@@ -250,6 +250,12 @@ fn used<F: Copy>(function: F, nothing: F, mut call: impl FnMut(F)) -> usize {
         addresses[i] = reached(&mut || call(one));
     }
     addresses[1] + 8 - addresses[2]
+}
+
+/// The bytes of this implementation's record, point and table.
+pub fn sizes() -> String {
+    let point = std::mem::size_of::<Point>();
+    format!("{} {} {}", std::mem::size_of::<Record>(), point, POINTS * point)
 }
 
 /// The bytes of stack that one call uses.

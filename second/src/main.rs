@@ -37,6 +37,7 @@ fn usage() -> c_int {
     eprintln!("         IMPL own, proved");
     eprintln!("       second stack OP IMPL");
     eprintln!("         OP   {}", bench::STACK_OPERATIONS.join(", "));
+    eprintln!("       second sizes");
     2
 }
 
@@ -75,6 +76,10 @@ pub extern "C" fn main(_argc: c_int, _argv: *const *const c_char) -> c_int {
             },
             None => usage(),
         },
+        ["sizes"] => {
+            println!("{}", bench::sizes());
+            0
+        }
         _ => usage(),
     }
 }

@@ -1,13 +1,13 @@
 -- How codes compose: one reader behind another, a value made of what was read, a test that refuses.
-use Prim.Native.Nat.{ℕ, zero, suc, _+_, _<_, _≤_}
+use Prim.Native.Nat.{ℕ, _+_}
 use mathlib.Core.Path.{_≡_, refl, ap, sym, _∙_}
-use mathlib.Core.List.{List, [], _∷_, _++_, append-assoc}
+use mathlib.Core.List.{List, [], _++_, append-assoc}
 use mathlib.Core.Bool.{Bool, true, false, cond}
 use native.Mathlib.Omega.{arith}
 use lib.ListN.{length, take, drop, length-append}
 use lib.Seq.{take-at, drop-at, drop-drop}
 use Rattle.bits.specs.declared.Refusal.{Refusal}
-use Rattle.bits.specs.Reading.{Out, ok, no, Reader, more, andThen, mapped}
+use Rattle.bits.specs.Reading.{Out, ok, no, Reader, andThen, mapped}
 use Rattle.bits.specs.Codes.{Codes}
 
 -- what is not an answer is none

@@ -5,7 +5,6 @@ use mathlib.Core.List.{List, [], _∷_, _++_, append-assoc}
 use mathlib.Core.Bool.{Bool, true, false, cond, _&&_}
 use native.Mathlib.Omega.{arith}
 use native.Mathlib.Nat.{pow-succ', add-zero}
-use native.Mathlib.Numerals.{add-one}
 use borrow.Author.Tests.{lt-ltb, le-ltb, ltb-true, ltb-false}
 use lib.Dec.{ltb}
 use lib.IntN.{ℤ, pos, negsuc}
@@ -13,7 +12,7 @@ use lib.Pow.{pow-mono, pow-pos}
 use lib.ListN.{length, take, drop, replicate, length-append, length-replicate, length-take, take-append-drop}
 use lib.Seq.{take-at, drop-at, drop-drop}
 use Rattle.bits.specs.Bits.{code, value}
-use Rattle.bits.specs.Reading.{Out, ok, no, Reader, more, andThen, mapped, u, i, ue, zeros, zerosThenOne, signedOf, toBoundary, aligned}
+use Rattle.bits.specs.Reading.{Out, ok, no, Reader, mapped, u, i, ue, zeros, zerosThenOne, signedOf, toBoundary, aligned}
 use Rattle.bits.specs.Coding.{Coding, unsigned, signed, widthOf, holds, complement, fieldReader, fieldCode, fields, fieldsCode, holdAll, totalWidth}
 use Rattle.bits.specs.Codes.{Codes, halvings, zerosOf, ueCode}
 use Rattle.bits.proofs.Bits.{length-code, value-code, code-value}

@@ -1,5 +1,7 @@
+pub mod Lists
 pub mod Bits
 pub mod Reading
+pub mod Casts
 pub mod Signed
 pub mod Codes
 pub mod Elements

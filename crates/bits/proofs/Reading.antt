@@ -1,18 +1,18 @@
 -- Laws by which the functions that read meet their definitions.
-use Prim.Native.Nat.{ℕ, zero, suc, _+_, _-_, _*_, _/_, _%_, _^_, _<_, _≤_}
-use mathlib.Core.Path.{_≡_, refl, ap, sym, _∙_}
-use mathlib.Core.List.{List, [], _∷_, _++_}
-use mathlib.Core.Bool.{Bool, true, false, cond}
+use Prim.Native.Nat.{ℕ, suc, _+_, _-_, _*_, _/_, _%_, _^_, _<_, _≤_}
+use mathlib.Core.Path.{_≡_, refl, ap, _∙_}
+use mathlib.Core.List.{List, [], _∷_}
+use mathlib.Core.Bool.{Bool, true, false}
 use native.Mathlib.Omega.{arith}
 use lib.ListN.{length, getD, take, drop, drop-of-length-le}
-use lib.Dec.{eqb, leb, ltb}
+use lib.Dec.{leb, ltb}
 use lib.Seq.{drop-cons, drop-drop, getD-drop}
-use borrow.Author.Tests.{le-leb, lt-leb, lt-ltb, le-ltb, leb-true, ltb-true, ltb-false}
+use borrow.Author.Tests.{le-leb, lt-leb, lt-ltb, le-ltb, leb-true, ltb-true}
 use Rattle.bits.specs.declared.Refusal.{Refusal}
 use Rattle.bits.specs.declared.Number.the-variants.{Is, Refused}
 use Rattle.bits.specs.declared.Integer.the-variants.{Is as IsInteger, Refused as RefusedInteger}
-use Rattle.bits.specs.Bits.{odd, bitsOf, bit, value}
-use Rattle.bits.specs.Reading.{Out, ok, no, more, andThen, mapped, pastEnd, tooManyZeros, notZero, u, i, signedOf, zerosThenOne, ue, zeros, numberOf, integerOf}
+use Rattle.bits.specs.Bits.{bitsOf, bit, value}
+use Rattle.bits.specs.Reading.{Out, ok, no, more, pastEnd, tooManyZeros, notZero, u, i, signedOf, zerosThenOne, ue, zeros, numberOf, integerOf}
 use Rattle.bits.proofs.Bits.{bit-of, bit-odd, length-bits, value-more, value-take-lt}
 
 -- what an answer says of the reading that it is of

@@ -1,7 +1,7 @@
 -- Laws of two's complement in n bits, and of the shifts that make 2 ^ n.
 use Prim.Native.Nat.{ℕ, zero, suc, _+_, _-_, _*_, _%_, _^_, _<_, _≤_}
-use mathlib.Core.Path.{_≡_, refl, ap, sym, _∙_}
-use mathlib.Core.Bool.{Bool, true, false}
+use mathlib.Core.Path.{_≡_, ap, sym, _∙_}
+use mathlib.Core.Bool.{true, false}
 use native.Mathlib.Omega.{arith}
 use native.Mathlib.Nat.{pow-succ', one-mul, mod-eq-of-lt}
 use borrow.Author.Tests.{lt-ltb, le-ltb, ltb-true}
@@ -13,6 +13,7 @@ use mir.Val.{toZ, ofZ, Fits, SFits}
 use mir.ValLaws.{toZ-pos, toZ-ofZ}
 use mir.Syntax.{w32, w64}
 use Rattle.bits.specs.Reading.{signedOf}
+use Rattle.bits.proofs.Casts.{wider, unsigned}
 use Rattle.bits.specs.Coding.{signed, holds, complement}
 
 -- 1 << k in w bits
@@ -65,23 +66,19 @@ module _ (n v : ℕ) (some : 0 < n) (most : n ≤ 32) (low : 2 ^ (n - 1) ≤ v) 
 -- of a number z in 32 bits, with a sign: what its cast to an unsigned number asks and gives
 pub unsigned-low : (n : ℕ) (z : ℤ) → SFits w32 z → leZ (pos 0) (toZ w32 (ofZ w32 z)) ≡ true
     → (T (nonNeg (toZ w32 (ofZ w32 z))) × Fits w32 (natAbs (toZ w32 (ofZ w32 z)))) × (natAbs (toZ w32 (ofZ w32 z)) ≡ complement n z)
-unsigned-low n z f h = rw (toZ-ofZ w32 z f) (go z f (rw (toZ-ofZ w32 z f) at h))
-  where
-    go : (z : ℤ) → SFits w32 z → leZ (pos 0) z ≡ true → (T (nonNeg z) × Fits w32 (natAbs z)) × (natAbs z ≡ complement n z)
-    go (pos v) f h = let l = f .sfits in ((tt, record { fits = omega arith }), refl)
-    go (negsuc v) f h = let z : _≡_ {A = ℕ} 0 1 = cc in absurd (omega arith)
+unsigned-low n z f h = let u = unsigned w32 w32 z f (omega arith) h in (u .0, ap (complement n) (u .1))
 
 module _ (n : ℕ) (z : ℤ) (f : SFits w32 z) (some : 0 < n) (most : n ≤ 32) (held : holds (signed n) z ≡ true) (neg : leZ (pos 0) (toZ w32 (ofZ w32 z)) ≡ false) where
   abbrev sum : ℤ
   sum = toZ w64 (1 * 2 ^ n % 18446744073709551616) +ℤ toZ w64 (ofZ w64 (toZ w32 (ofZ w32 z)))
 
-  pub wide-fits : SFits w64 (toZ w32 (ofZ w32 z))
-  wide-fits = rw (toZ-ofZ w32 z f) (let l = f .sfits in record { sfits = omega arith })
+  wide : SFits w64 (toZ w32 (ofZ w32 z)) × (toZ w64 (ofZ w64 (toZ w32 (ofZ w32 z))) ≡ z)
+  wide = wider w32 w64 z f (omega arith)
 
   sum-is : (sum ≡ pos (complement n z)) × (complement n z < 4294967296)
   sum-is =
       let p : 2 ^ n ≤ 2 ^ 32 = pow-mono {j = 32} most in
-      rw (shl-one n 64 (omega arith), toZ-pos w64 (2 ^ n) (omega arith), toZ-ofZ w64 (toZ w32 (ofZ w32 z)) wide-fits, toZ-ofZ w32 z f)
+      rw (shl-one n 64 (omega arith), toZ-pos w64 (2 ^ n) (omega arith), wide .1)
       (go z held (rw (toZ-ofZ w32 z f) at neg) p)
     where
       go : (z : ℤ) → holds (signed n) z ≡ true → leZ (pos 0) z ≡ false → 2 ^ n ≤ 2 ^ 32 → (pos (2 ^ n) +ℤ z ≡ pos (complement n z)) × (complement n z < 4294967296)

@@ -1,19 +1,17 @@
 -- How many bits a reader takes: at most k, and no more than there are.
-use Prim.Native.Nat.{ℕ, zero, suc, _+_, _*_, _<_, _≤_}
-use mathlib.Core.Path.{_≡_, refl, ap, sym, _∙_}
-use mathlib.Core.List.{List, [], _∷_, _++_}
+use Prim.Native.Nat.{ℕ, _+_, _*_, _≤_}
+use mathlib.Core.Path.{_≡_, refl, ap}
+use mathlib.Core.List.{List}
 use mathlib.Core.Bool.{Bool, true, false, cond}
 use native.Mathlib.Omega.{arith}
 use lib.ListN.{length, drop, replicate, length-append, length-drop, length-replicate}
-use lib.IntN.{ℤ}
 use Rattle.bits.specs.declared.Refusal.{Refusal}
 use Rattle.bits.specs.Bits.{code}
-use Rattle.bits.specs.Reading.{Out, ok, no, Reader, more, andThen, mapped, u, i, ue, zeros, toBoundary, aligned}
-use Rattle.bits.specs.Coding.{Coding, complement, fields, fieldsCode, holdAll, totalWidth}
-use Rattle.bits.specs.Codes.{Codes, Takes, zerosOf, ueCode}
+use Rattle.bits.specs.Reading.{Out, ok, no, Reader, andThen, mapped, u, ue, zeros, toBoundary, aligned}
+use Rattle.bits.specs.Codes.{Codes, Takes, ueCode}
 use Rattle.bits.proofs.Bits.{length-code}
 use Rattle.bits.proofs.Codes.{no-not-ok}
-use Rattle.bits.proofs.Elements.{codes-u, codes-i, codes-ue, codes-zeros, codes-fields, AllProper, length-ue, length-fields, zeros-few}
+use Rattle.bits.proofs.Elements.{codes-u, codes-ue, codes-zeros, length-ue, zeros-few}
 
 -- what the codes' lengths say
 pub takes-codes : {A : Type 0} (k : ℕ) (p : Reader A) (e : A → List Bool) (F : A → Type 0) → Codes p e F → ((v : A) → F v → length (e v) ≤ k) → Takes k p
@@ -24,17 +22,11 @@ takes-codes k p e F c h s v n q =
 pub takes-u : (n : ℕ) → Takes n (u n)
 takes-u n = takes-codes n (u n) (code n) _ (codes-u n) (λ v h. omega (arith, length-code n v))
 
-pub takes-i : (n : ℕ) → 0 < n → Takes n (i n)
-takes-i n p = takes-codes n (i n) (λ z. code n (complement n z)) _ (codes-i n p) (λ z h. omega (arith, length-code n (complement n z)))
-
 pub takes-ue : (most : ℕ) → Takes (2 * most + 1) (ue most)
 takes-ue most = takes-codes (2 * most + 1) (ue most) ueCode _ (codes-ue most) (λ v h. omega (arith, length-ue v, zeros-few most v h))
 
 pub takes-zeros : (n : ℕ) → Takes n (zeros n)
 takes-zeros n = takes-codes n (zeros n) (λ v. replicate n false) _ (codes-zeros n) (λ v h. omega (arith, length-replicate n false))
-
-pub takes-fields : (cs : List Coding) → AllProper cs → Takes (totalWidth cs) (fields cs)
-takes-fields cs p = takes-codes (totalWidth cs) (fields cs) (fieldsCode cs) _ (codes-fields cs p) (λ zs h. omega (arith, length-fields cs zs h))
 
 -- how readers compose
 pub takes-no : {A : Type 0} (k : ℕ) (r : Refusal) → Takes {A = A} k (λ s. no r)

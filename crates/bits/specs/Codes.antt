@@ -1,13 +1,13 @@
 -- A reader and the one code of each value that it takes.
 use Prim.Native.Nat.{ℕ, zero, suc, _+_, _-_, _/_, _^_, _≤_}
 use mathlib.Core.Path.{_≡_}
-use mathlib.Core.List.{List, [], _∷_, _++_}
+use mathlib.Core.List.{List, _∷_, _++_}
 use mathlib.Core.Bool.{Bool, true, false, cond}
 use lib.Dec.{ltb}
 use lib.ListN.{length, drop, replicate}
 use Rattle.bits.specs.Bits.{code}
 use Rattle.bits.specs.declared.Refusal.{Refusal}
-use Rattle.bits.specs.Reading.{Out, ok, no, Reader}
+use Rattle.bits.specs.Reading.{ok, no, Reader}
 
 -- p takes exactly the codes e of the values that Fit: each, whatever follows it, and from nothing else
 pub record Codes {A : Type 0} (p : Reader A) (e : A → List Bool) (Fit : A → Type 0) : Type 0 where

@@ -1,11 +1,11 @@
 -- Fields of a fixed width, as data: how each is coded, which numbers it holds, and how a row of them is read and coded.
-use Prim.Native.Nat.{ℕ, zero, suc, _+_, _-_, _^_}
+use Prim.Native.Nat.{ℕ, suc, _+_, _-_, _^_}
 use mathlib.Core.List.{List, [], _∷_, _++_}
 use mathlib.Core.Bool.{Bool, true, false, _&&_}
 use lib.Dec.{ltb}
 use lib.IntN.{ℤ, pos, negsuc}
 use Rattle.bits.specs.Bits.{code}
-use Rattle.bits.specs.Reading.{Out, ok, Reader, andThen, mapped, u, i}
+use Rattle.bits.specs.Reading.{ok, Reader, andThen, mapped, u, i}
 
 -- the descriptors u(n) and i(n) of H.265
 pub data Coding : Type 0 where

@@ -44,7 +44,8 @@ fn field16(s: &[u8], at: usize, n: usize) -> u16
     bits::field(s, at, n) as u16
 }
 
-// The fields of level 1.
+// The fields of level 1. Here and in the next two the slice's length is looked at once: n bits from `at` on lie in its first
+// (at + n + 7) / 8 bytes.
 fn fields1(s: &[u8], at: usize) -> Step
     requires { ⌜ at < 2 ^ 60 ⌝ }
     ensures { λ r. ⌜ r ≡ stepOf (mapped (blockOf 1) (fields (codings 1) (drop at (bitsOf (now (s .entry)))))) ⌝ }

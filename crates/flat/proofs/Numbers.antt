@@ -74,9 +74,3 @@ module _ (z : ℤ) (f : SFits w32 z) where
 -- a field as a number of 32 bits
 pub wide : (v : ℕ) → v < 65536 → toZ w32 v ≡ pos v
 wide v h = toZ-pos w32 v (omega arith)
-
-pub signed-wide : (z : ℤ) → SFits w16 z → SFits w32 (toZ w16 (ofZ w16 z)) × (toZ w32 (ofZ w32 (toZ w16 (ofZ w16 z))) ≡ z)
-signed-wide z f =
-    let l = f .sfits in
-    let g : SFits w32 z = record { sfits = omega arith } in
-    rw (toZ-ofZ w16 z f) (g, toZ-ofZ w32 z g)

@@ -12,7 +12,7 @@ ghost use Rattle.flat.specs.Flat.{placeLength, flatLength, flatBlock, fl
 // How many numbers a record has, and a place.
 pub const NUMBERS: usize = 146;
 
-const PLACE: usize = 8;
+pub const PLACE: usize = 8;
 
 const BLOCKS: usize = Record::BLOCKS as usize;
 

@@ -1,16 +1,14 @@
--- How many keys a join has, and joins with a limit.
-use mathlib.Core.Path.{_≡_, refl, sym, _∙_, ap, subst}
+-- How many points a join has: as many as both lists have different keys.
+use mathlib.Core.Path.{_≡_, refl, sym, _∙_, ap}
 use mathlib.Core.Bool.{Bool, true, false, cond}
 use mathlib.Core.List.{List, [], _∷_, _++_, map}
 use mathlib.Core.Option.{Option, none, some}
 use Prim.Native.Nat.{ℕ, suc, _≤_}
 use native.Mathlib.Omega.{arith}
-use borrow.Author.Tests.{leb-true, le-leb}
-use lib.Dec.{leb}
 use lib.ListN.{length, length-map}
-use Rattle.keyed.specs.Keyed.{orElse, andThen, Compared, less, same, more, Order, orSame, among, different, insertBy, insert, join, joinWithin, heldAtBy, heldAt, Above, Rising}
-use Rattle.keyed.proofs.Laws.{join-rising, held-in-join, same-points, join-groups, held-above, held-insert, insert-rising, above-trans}
-use Rattle.keyed.proofs.Mapped.{join-map, rising-to}
+use Rattle.keyed.specs.Keyed.{orElse, Compared, less, same, more, Order, orSame, among, different, insertBy, insert, join, heldAtBy, heldAt, Rising}
+use Rattle.keyed.proofs.Laws.{join-rising, held-in-join, same-points, held-above, held-insert, insert-rising, above-trans}
+use Rattle.keyed.proofs.Mapped.{rising-to}
 
 -- ---- whether there is something
 abbrev has : {A : Type 0} → Option A → Bool
@@ -176,33 +174,3 @@ module _ {K P : Type 0} (O : Order K) (key : P → K) where
   pub first-length : (a b : List P) → length a ≤ length (join O key a b)
   first-length a [] = omega arith
   first-length a (y ∷ ys) = let h = first-length a ys in let g = insert-longer y (join O key a ys) in omega arith
-
-  -- ---- with a limit
-  abbrev within : ℕ → List P → Option (List P)
-  within limit l = cond (leb (length l) limit) (some l) none
-
-  -- a list that is no longer than the next is within the limit where the next is
-  first-within : (limit : ℕ) (l m : List P) → length l ≤ length m → (f : List P → List P) → f l ≡ m
-      → andThen (within limit l) (λ k. within limit (f k)) ≡ within limit m
-  first-within limit l m h f e = go (leb (length l) limit) (leb (length m) limit) refl refl
-    where
-      go : (b c : Bool) → leb (length l) limit ≡ b → leb (length m) limit ≡ c
-          → andThen (cond b (some l) none) (λ k. within limit (f k)) ≡ cond c (some m) none
-      go true c eb ec = ap (within limit) e ∙ ap (λ (d : Bool). cond d (some m) none) ec
-      go false true eb ec =
-          let g = leb-true (length m) limit ec in
-          let y = le-leb (length l) limit (omega arith) in
-          let z : _≡_ {A = Bool} true false = sym y ∙ eb in
-          let w : _≡_ {A = ℕ} 0 1 = cc in
-          absurd (omega arith)
-      go false false eb ec = refl
-
-  -- joining three with a limit gives the same list in both groupings, or is refused in both
-  pub join-within-groups : (limit : ℕ) (a b c : List P) → Rising O key a → Rising O key b → Rising O key c
-      → andThen (joinWithin O key limit a b) (λ ab. joinWithin O key limit ab c)
-      ≡ andThen (joinWithin O key limit b c) (λ bc. joinWithin O key limit a bc)
-  join-within-groups limit a b c ra rb rc =
-      first-within limit (join O key a b) (join O key (join O key a b) c) (first-length (join O key a b) c) (λ ab. join O key ab c) refl
-      ∙ sym (first-within limit (join O key b c) (join O key (join O key a b) c)
-      (let e = ap length (join-groups O key a b c ra rb) in let h = second-length a (join O key b c) ra (join-rising O key b c rb) in omega arith)
-      (λ bc. join O key a bc) (sym (join-groups O key a b c ra rb)))

@@ -1,8 +1,7 @@
 -- Joins of lists that a function takes to points, and what holds of all points of a join.
 use mathlib.Core.Path.{_≡_, refl, _∙_, ap}
 use mathlib.Core.List.{List, [], _∷_, map}
-use mathlib.Core.Option.{Option, none, some}
-use Rattle.keyed.specs.Keyed.{Compared, less, same, more, Order, insertBy, insert, join, heldAtBy, heldAt, Above, Rising}
+use Rattle.keyed.specs.Keyed.{Compared, less, same, more, Order, insertBy, insert, join, Above, Rising}
 
 module _ {K P Q : Type 0} (O : Order K) (key : P → K) (f : Q → P) where
   abbrev keyOf : Q → K

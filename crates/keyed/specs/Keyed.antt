@@ -1,22 +1,15 @@
 -- Lists of points in rising order of their keys: join, the point held at a key, the point in force, how many keys differ.
--- Over any key with a strict total order, any point and any limit.
-use Prim.Native.Nat.{ℕ, zero, suc}
+-- Over any key with a strict total order, and any point.
+use Prim.Native.Nat.{ℕ, suc}
 use mathlib.Core.Path.{_≡_}
 use mathlib.Core.Bool.{Bool, true, false, cond}
 use mathlib.Core.List.{List, [], _∷_}
 use mathlib.Core.Option.{Option, none, some}
-use lib.Dec.{leb}
-use lib.ListN.{length}
 
 -- the first where there is one, and else the second
 abbrev pub orElse : {A : Type 0} → Option A → Option A → Option A
 orElse none y = y
 orElse (some x) y = some x
-
--- what f makes of it, where there is one
-abbrev pub andThen : {A B : Type 0} → Option A → (A → Option B) → Option B
-andThen none f = none
-andThen (some x) f = f x
 
 -- how two keys stand to each other
 pub data Compared {K : Type 0} (Before : K → K → Type 0) (a b : K) : Type 0 where
@@ -62,10 +55,6 @@ module _ {K P : Type 0} (O : Order K) (key : P → K) where
   abbrev pub join : List P → List P → List P
   join a [] = a
   join a (y ∷ ys) = insert y (join a ys)
-
-  -- the join where it has no more points than the limit, and else a refusal
-  abbrev pub joinWithin : ℕ → List P → List P → Option (List P)
-  joinWithin limit a b = cond (leb (length (join a b)) limit) (some (join a b)) none
 
   abbrev pub heldAtBy : {k : K} (x : P) → Option P → Compared (O .Before) k (key x) → Option P
   heldAtBy x r (less _) = r

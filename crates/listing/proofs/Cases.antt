@@ -1,11 +1,11 @@
 -- The listing of an accepted reading, and of a refusal.
 use Prim.Native.Nat.{_≤_}
-use mathlib.Core.Path.{_≡_, ap}
+use mathlib.Core.Path.{_≡_}
 use mathlib.Core.List.{append-nil}
 use mathlib.Core.Bool.{true}
 use borrow.Author.Tests.{eq-eqb, ne-eqb}
 use lib.IntN.{pos}
-use Rattle.record.specs.Valid.{mostBlocks, valid}
+use Rattle.record.specs.Valid.{mostBlocks}
 use Rattle.record.proofs.Clauses.{valid-means}
 use Rattle.reader.specs.declared.Reading.{Reading}
 use Rattle.listing.specs.Text.{lineText, text}

@@ -20,7 +20,7 @@ use Rattle.record.specs.declared.Block.the-variants.{Nothing, Level1, Level2, L
 use Rattle.record.specs.declared.Record.{Record}
 use Rattle.record.specs.Level.{level}
 use Rattle.record.specs.Valid.{blocks, among}
-use Rattle.record.proofs.Laws.{and-left, and-right}
+use Rattle.record.proofs.Laws.{and-left, and-right, among-append}
 use Rattle.record.proofs.Clauses.{empty-is-valid}
 use Rattle.record.proofs.Made.{valid-is-made}
 use Rattle.syntax.specs.Element.{natural}
@@ -77,18 +77,12 @@ neither : (a b : Bool) → a || b ≡ false → (a ≡ false) × (b ≡ false)
 neither true b h = let z : _≡_ {A = ℕ} 0 1 = cc in absurd (omega arith)
 neither false b h = (refl, h)
 
--- what is in neither list is not in the two
-among-neither : (x : ℕ) (ys zs : List ℕ) → among x ys ≡ false → among x zs ≡ false → among x (ys ++ zs) ≡ false
-unfolding among
-among-neither x [] zs h k = k
-among-neither x (y ∷ ys) zs h k = let p = neither (eqb x y) (among x ys) h in rw (p .0) (among-neither x ys zs (p .1) k)
-
 -- a sign that stands before the digits in ASCII is none of them
 no-digit : (b k n : ℕ) → b < 48 → among b (digits k n) ≡ false
 unfolding digits among
 no-digit b zero n h = refl
 no-digit b (suc k) n h =
-    among-neither b (digits k (n / 10)) ((48 + n % 10) ∷ []) (no-digit b k (n / 10) h) (rw (ne-eqb b (48 + n % 10) (λ e. omega arith)))
+    rw (among-append b (digits k (n / 10)) ((48 + n % 10) ∷ []), no-digit b k (n / 10) h, ne-eqb b (48 + n % 10) (λ e. omega arith))
 
 -- a number ends before the first line feed
 no-line-feed : (z : ℤ) → among lineFeed (number z) ≡ false

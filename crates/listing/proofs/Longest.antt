@@ -16,7 +16,7 @@ use Rattle.record.specs.declared.Block.the-variants.{Nothing, Level1, Level2, L
 use Rattle.record.specs.declared.Record.{Record}
 use Rattle.record.specs.Name.{«metadata_refresh_flag», «num_ext_blocks», «ext_block_level»}
 use Rattle.record.specs.Level.{Field, level, levelOf, valuesOf}
-use Rattle.record.specs.Valid.{blocks, every, inRange, many, targets, among, different, valid}
+use Rattle.record.specs.Valid.{blocks, every, inRange, many, targets, among, allDiffer, valid}
 use Rattle.record.proofs.Laws.{and-left, and-right}
 use Rattle.record.proofs.Clauses.{valid-means}
 use Rattle.reader.specs.declared.Reading.{Reading}
@@ -172,7 +172,7 @@ unfolding listing longest wideTrims text ascii digits sizeWithin blocksLines fie
 longest-bytes = refl
 
 pub longest-listable : listable longest ≡ true
-unfolding longest wideTrims valid every many targets among different holdAll
+unfolding longest wideTrims valid every many targets among allDiffer holdAll
 longest-listable = refl
 
 pub no-listing-is-longer : (q : Reading) → q .result < 256 → q .bits < 2 ^ 32 → listable q ≡ true → length (listing q) ≤ length (listing longest)

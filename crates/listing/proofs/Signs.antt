@@ -1,56 +1,43 @@
 -- A number with its sign: its size, and its text.
-use Prim.Native.Nat.{ℕ, zero, suc, _+_, _<_}
-use mathlib.Core.Path.{_≡_, refl, _∙_}
+use Prim.Native.Nat.{ℕ, _+_, _<_}
+use mathlib.Core.Path.{_≡_, refl}
 use mathlib.Core.List.{_++_}
 use mathlib.Core.Bool.{true, false}
 use native.Mathlib.Omega.{arith}
 use native.Mathlib.Numerals.{add-one}
 use native.Mathlib.Nat.{zero-add}
-use borrow.Author.Tests.{ltb-true}
+use borrow.Author.Tests.{ltb-true, leb-false}
 use lib.Dec.{T}
 use lib.IntN.{ℤ, pos, negsuc, natAbs, _-ℤ_}
-use lib.Signed.{ltZ, nonNeg}
+use lib.Signed.{ltZ, leZ, nonNeg}
 use mir.Val.{toZ, ofZ, SFits, Fits}
 use mir.ValLaws.{toZ-ofZ}
 use mir.Syntax.{w16, w32}
+use Rattle.bits.proofs.Casts.{wider}
 use Rattle.listing.specs.Text.{ascii, decimal, number, lineText}
 use Rattle.listing.specs.Listing.{line}
 use Rattle.listing.specs.Typing.{entry}
 
--- of a number z in 16 bits: what its negation in 32 bits, and the cast to an unsigned number, ask and give
-module _ (z : ℤ) (f : SFits w16 z) where
-  pub wide-fits : SFits w32 (toZ w16 (ofZ w16 z))
-  wide-fits = rw (toZ-ofZ w16 z f) (let l = f .sfits in record { sfits = omega arith })
+-- of a negative number z in 16 bits: what its negation in 32 bits, and the cast to an unsigned number, ask and give
+module _ (z : ℤ) (f : SFits w16 z) (h : leZ (pos 0) (toZ w16 (ofZ w16 z)) ≡ false) where
+  abbrev negated : ℤ
+  negated = pos 0 -ℤ toZ w32 (ofZ w32 (toZ w16 (ofZ w16 z)))
 
-  wide-is : toZ w32 (ofZ w32 (toZ w16 (ofZ w16 z))) ≡ z
-  wide-is = toZ-ofZ w32 (toZ w16 (ofZ w16 z)) wide-fits ∙ toZ-ofZ w16 z f
-
-  pub positive-fits : ltZ (toZ w16 (ofZ w16 z)) (pos 0) ≡ false → T (nonNeg (toZ w16 (ofZ w16 z))) × Fits w32 (natAbs (toZ w16 (ofZ w16 z)))
-  positive-fits h = rw (toZ-ofZ w16 z f) (go z f (rw (toZ-ofZ w16 z f) at h))
+  negated-is : (negated ≡ pos (natAbs z)) × (natAbs z < 65536)
+  negated-is = rw (wider w16 w32 z f (omega arith) .1) (go z f (rw (toZ-ofZ w16 z f) at h))
     where
-      go : (z : ℤ) → SFits w16 z → ltZ z (pos 0) ≡ false → T (nonNeg z) × Fits w32 (natAbs z)
-      go (pos v) f h = let l = f .sfits in (tt, record { fits = omega arith })
-      go (negsuc v) f h = let z : _≡_ {A = ℕ} 0 1 = cc in absurd (omega arith)
+      go : (z : ℤ) → SFits w16 z → leZ (pos 0) z ≡ false → (pos 0 -ℤ z ≡ pos (natAbs z)) × (natAbs z < 65536)
+      go (pos v) f h = absurd (omega (arith, leb-false 0 v h))
+      go (negsuc v) f h = let l = f .sfits in (rw zero-add, omega arith)
 
-  module _ (h : ltZ (toZ w16 (ofZ w16 z)) (pos 0) ≡ true) where
-    abbrev negated : ℤ
-    negated = pos 0 -ℤ toZ w32 (ofZ w32 (toZ w16 (ofZ w16 z)))
+  pub negated-fits : SFits w32 negated
+  negated-fits = let n = negated-is in rw (n .0) (record { sfits = omega (arith, n .1) })
 
-    negated-is : (negated ≡ pos (natAbs z)) × (natAbs z < 65536)
-    negated-is = rw wide-is (go z f (rw (toZ-ofZ w16 z f) at h))
-      where
-        go : (z : ℤ) → SFits w16 z → ltZ z (pos 0) ≡ true → (pos 0 -ℤ z ≡ pos (natAbs z)) × (natAbs z < 65536)
-        go (pos v) f h = let l = ltb-true v 0 h in absurd (omega arith)
-        go (negsuc v) f h = let l = f .sfits in (rw zero-add, omega arith)
+  pub size-fits : T (nonNeg (toZ w32 (ofZ w32 negated))) × Fits w32 (natAbs (toZ w32 (ofZ w32 negated)))
+  size-fits = let n = negated-is in rw (toZ-ofZ w32 negated negated-fits, n .0) (tt, record { fits = omega (arith, n .1) })
 
-    pub negated-fits : SFits w32 negated
-    negated-fits = let n = negated-is in rw (n .0) (record { sfits = omega (arith, n .1) })
-
-    pub size-fits : T (nonNeg (toZ w32 (ofZ w32 negated))) × Fits w32 (natAbs (toZ w32 (ofZ w32 negated)))
-    size-fits = let n = negated-is in rw (toZ-ofZ w32 negated negated-fits, n .0) (tt, record { fits = omega (arith, n .1) })
-
-    pub size-is : natAbs (toZ w32 (ofZ w32 negated)) ≡ natAbs z
-    size-is = let n = negated-is in rw (toZ-ofZ w32 negated negated-fits, n .0)
+  pub size-is : natAbs (toZ w32 (ofZ w32 negated)) ≡ natAbs z
+  size-is = let n = negated-is in rw (toZ-ofZ w32 negated negated-fits, n .0)
 
 -- the text of a negative number, and of another
 pub negative-text : (z : ℤ) → ltZ z (pos 0) ≡ true → ascii "-" ++ decimal (natAbs z) ≡ number z

@@ -4,7 +4,8 @@ use mathlib.Core.Path.{_≡_, refl, ap, sym, _∙_}
 use mathlib.Core.List.{List, [], _∷_, _++_, append-assoc}
 use native.Mathlib.Omega.{arith}
 use lib.ListN.{length, take, drop, set, length-append, take-append-drop}
-use lib.Seq.{take-length, set-comm, drop-drop, paste, take-paste, drop-paste, length-paste, sets, sets-eq}
+use lib.Seq.{take-length, set-comm, paste, take-paste, drop-paste, length-paste, sets, sets-eq}
+use Rattle.bits.proofs.Lists.{later-on}
 use Rattle.listing.specs.Typing.{Typed}
 
 -- a copied text
@@ -30,19 +31,10 @@ set-before (c ∷ s) out i j b h =
 pub typed-then : {o₀ o₁ o₂ : List ℕ} {p₀ p₁ p₂ : ℕ} {s t : List ℕ} → Typed o₀ p₀ s o₁ p₁ → Typed o₁ p₁ t o₂ p₂ → Typed o₀ p₀ (s ++ t) o₂ p₂
 typed-then {o₀} {o₁} {o₂} {p₀} {p₁} {p₂} {s} {t} p q = record {
   more = q .more ∙ rw (p .more) (append-assoc (take p₀ o₀) s t);
-  later = q .later ∙ deep;
+  later = q .later ∙ later-on p₁ p₂ o₁ o₀ (omega (arith, q .place)) (p .later);
   same = q .same ∙ p .same;
   place = omega (arith, p .place, q .place, length-append s t);
 }
-  where
-    e : p₁ + (p₂ - p₁) ≡ p₂
-    e = omega (arith, q .place)
-
-    deep : drop p₂ o₁ ≡ drop p₂ o₀
-    deep =
-        ap (λ (n : ℕ). drop n o₁) (sym e) ∙ sym (drop-drop (p₂ - p₁) p₁ o₁)
-        ∙ ap (λ (l : List ℕ). drop (p₂ - p₁) l) (p .later)
-        ∙ drop-drop (p₂ - p₁) p₁ o₀ ∙ ap (λ (n : ℕ). drop n o₀) e
 
 -- room for what follows is left
 pub room-left : {o₀ o₁ : List ℕ} {p₀ p₁ : ℕ} {s : List ℕ} → Typed o₀ p₀ s o₁ p₁ → (t : List ℕ) → p₀ + length (s ++ t) ≤ length o₀ → p₁ + length t ≤ length o₁

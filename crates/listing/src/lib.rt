@@ -6,14 +6,14 @@ use writer::Written;
 ghost use mathlib.Core.Path.{_≡_};
 ghost use mathlib.Core.Bool.{true};
 ghost use mathlib.Core.List.{[], _∷_, _++_};
-ghost use Prim.Native.Nat.{_+_, _*_, _≤_};
-ghost use lib.ListN.{length, take};
+ghost use Prim.Native.Nat.{_+_, _≤_};
+ghost use lib.ListN.{length};
 ghost use lib.IntN.{pos, natAbs};
 ghost use Rattle.record.specs.Level.{level, levelOf, valuesOf};
-ghost use Rattle.record.specs.Valid.{mostBlocks, allBlocks, blocks, valid};
+ghost use Rattle.record.specs.Valid.{mostBlocks, blocks};
 ghost use Rattle.writer.specs.Writing.{writtenAs, bufferAs};
 ghost use Rattle.listing.specs.Text.{decimal, lineText, text};
-ghost use Rattle.listing.specs.Listing.{line, fieldLines, blockLines, blocksLines, headLines, acceptedLines, refusedLines, listing, listable};
+ghost use Rattle.listing.specs.Listing.{line, fieldLines, blockLines, blocksLines, headLines, acceptedLines, listing, listable};
 ghost use Rattle.listing.specs.Longest.{longest};
 ghost use Rattle.listing.specs.Typing.{Room, Typed, entry};
 
@@ -97,10 +97,10 @@ fn put_level1(out: &mut [u8], at: usize, min: u16, max: u16, avg: u16) -> usize
 fn magnitude(v: i16) -> u32
     ensures { λ r. ⌜ r ≡ natAbs v ⌝ }
 {
-    if v < 0 {
-        (-(v as i32)) as u32
-    } else {
+    if 0 <= v {
         v as u32
+    } else {
+        (-(v as i32)) as u32
     }
 }
 

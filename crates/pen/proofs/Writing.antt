@@ -1,20 +1,21 @@
 -- Laws of the pen: one bit, one writing behind another, and that a statement of what was written admits one answer.
-use Prim.Native.Nat.{ℕ, zero, suc, _+_, _-_, _*_, _/_, _%_, _^_, _<_, _≤_}
+use Prim.Native.Nat.{ℕ, suc, _+_, _-_, _*_, _/_, _%_, _^_, _<_, _≤_}
 use mathlib.Core.Path.{_≡_, refl, ap, sym, _∙_}
 use mathlib.Core.List.{List, [], _∷_, _++_, append-assoc, append-nil}
 use mathlib.Core.Bool.{Bool, true, false}
 use native.Mathlib.Omega.{arith}
 use native.Mathlib.Numerals.{add-one}
-use native.Mathlib.Nat.{pow-succ', div-one, add-zero, add-mul, mul-assoc, mod-lt}
+use native.Mathlib.Nat.{pow-succ', div-one, add-mul, mul-assoc, mod-lt}
 use lib.ListN.{length, take, drop, set, replicate, length-set, length-append, length-take, take-append-drop}
-use lib.Seq.{take-suc-set, drop-set-lt, drop-drop, take-at, drop-at}
+use lib.Seq.{take-suc-set, drop-set-lt, take-at, drop-at}
 use lib.Pow.{shr-shr, pow-mono, pow-pos, split}
 use Rattle.pen.specs.declared.Pen.{Pen}
 use Rattle.bits.specs.Bits.{bitsOf, code, odd, value, valueFrom, bit, Bytes}
 use Rattle.bits.specs.Codes.{zerosOf, ueCode}
 use Rattle.pen.specs.Writing.{written, startPen, Sound, Room, Wrote}
+use Rattle.bits.proofs.Lists.{later-on, bytes-take}
 use Rattle.bits.proofs.Bits.{length-code, length-bits, bits-append, bits-determine, code-value, value-code}
-use Rattle.bits.proofs.Elements.{zeros-law, zeros-is, length-ue}
+use Rattle.bits.proofs.Elements.{zeros-law, zeros-is}
 
 odd-mod : (v : ℕ) → odd (v % 2) ≡ odd v
 odd-mod v = let h : v % 2 % 2 ≡ v % 2 = omega arith in rw h
@@ -79,19 +80,10 @@ pub wrote-then : {o₀ o₁ o₂ : List ℕ} {p₀ p₁ p₂ : Pen} {bs cs : Lis
 wrote-then {o₀} {o₁} {o₂} {p₀} {p₁} {p₂} {bs} {cs} p q = record {
   more = q .more ∙ rw (p .more) (append-assoc (written o₀ p₀) bs cs);
   sound = q .sound;
-  later = q .later ∙ deep;
+  later = q .later ∙ later-on (p₁ .at) (p₂ .at) o₁ o₀ (omega (arith, q .place, q .sound .few, p .sound .few)) (p .later);
   same = q .same ∙ p .same;
   place = omega (arith, p .place, q .place, length-append bs cs);
 }
-  where
-    e : p₁ .at + (p₂ .at - p₁ .at) ≡ p₂ .at
-    e = omega (arith, q .place, q .sound .few, p .sound .few)
-
-    deep : drop (p₂ .at) o₁ ≡ drop (p₂ .at) o₀
-    deep =
-        ap (λ (n : ℕ). drop n o₁) (sym e) ∙ sym (drop-drop (p₂ .at - p₁ .at) (p₁ .at) o₁)
-        ∙ ap (λ (l : List ℕ). drop (p₂ .at - p₁ .at) l) (p .later)
-        ∙ drop-drop (p₂ .at - p₁ .at) (p₁ .at) o₀ ∙ ap (λ (n : ℕ). drop n o₀) e
 
 pub wrote-none : (out : List ℕ) (pen : Pen) → Sound pen → Wrote out pen [] out pen
 wrote-none out pen s = record {
@@ -175,11 +167,6 @@ same-parts a b c d l e = (
   sym (take-at a b (length a) refl) ∙ ap (take (length a)) e ∙ take-at c d (length a) (sym l),
   sym (drop-at a b (length a) refl) ∙ ap (drop (length a)) e ∙ drop-at c d (length a) (sym l),
 )
-
-pub bytes-take : (n : ℕ) (s : List ℕ) → Bytes s → Bytes (take n s)
-bytes-take zero s h = tt
-bytes-take (suc n) [] h = tt
-bytes-take (suc n) (b ∷ s) h = (h .0, bytes-take n s (h .1))
 
 pub wrote-one : {out : List ℕ} {pen : Pen} {bits : List Bool} {o₁ o₂ : List ℕ} {p₁ p₂ : Pen} → Bytes o₁ → Bytes o₂
     → Wrote out pen bits o₁ p₁ → Wrote out pen bits o₂ p₂ → (p₁ ≡ p₂) × (o₁ ≡ o₂)

@@ -13,6 +13,7 @@ use Rattle.record.specs.declared.Record.{Record}
 use Rattle.record.specs.Valid.{mostBlocks, valid}
 use Rattle.syntax.specs.Element.{payload}
 use Rattle.syntax.proofs.Largest.{no-payload-is-longer, largest-length}
+use Rattle.reader.specs.declared.Reading.{Reading}
 use Rattle.writer.specs.declared.Written.{Written}
 use Rattle.writer.specs.Writing.{writtenAs, bufferAs, fits}
 use Rattle.plan.specs.declared.Scanned.{Scanned}
@@ -21,7 +22,8 @@ use Rattle.plan.specs.declared.Found.{Found}
 use Rattle.plan.specs.Limit.{mostPoints}
 use Rattle.plan.specs.Planning.{noSources, layoutOf, mergedSources, refusal, planOf}
 use Rattle.plan.specs.Seeking.{reachOf, seekOf}
-use Rattle.flat.specs.Flat.{flat}
+use Rattle.flat.specs.Flat.{flat, flatLength, recordIn}
+use Rattle.flat.proofs.Named.{length-in}
 use Rattle.track.specs.declared.Point.{Point}
 use Rattle.track.specs.declared.InForce.{InForce}
 use Rattle.track.specs.declared.Joined.{Joined}
@@ -31,7 +33,7 @@ use Rattle.track.proofs.Together.{laid, answer-is, table-is}
 use Rattle.track.proofs.Looking.{look-is, inside}
 use Rattle.tables.specs.Table.{pointIn, tableIn}
 use Rattle.tables.proofs.Laws.{length-table, table-at}
-use Rattle.pimlasut.specs.Boundary.{unless, after}
+use Rattle.pimlasut.specs.Boundary.{unless, after, isRecord}
 
 -- ---- lengths, and what stays
 
@@ -78,6 +80,17 @@ pasted-whole d s n e f =
 pub whole-row : (l : List ℤ) (n : ℕ) → length l ≡ n → take n (drop 0 l) ≡ l
 whole-row l n e = take-all n l (omega arith)
 
+-- ---- reading
+
+-- a reading, as it is given
+pub given-reading : (row : List ℤ) (bits : ℕ) {row′ : List ℤ} {bits′ n : ℕ} {q expected : Reading} → length row ≡ flatLength → q ≡ expected
+    → n ≡ q .result → row′ ≡ after n (flat (q .«record»)) row → bits′ ≡ after n (q .bits) bits
+    → (n ≡ unless (isRecord row) (expected .result)) × ((row′ ≡ after n (flat (expected .«record»)) row) × (bits′ ≡ after n (expected .bits) bits))
+given-reading row bits {n = n} {expected = expected} l e f g h = (
+  f ∙ ap (λ (q : Reading). q .result) e ∙ right (isRecord row) (expected .result) (eq-eqb (length row) flatLength l),
+  (g ∙ ap (λ (q : Reading). after n (flat (q .«record»)) row) e, h ∙ ap (λ (q : Reading). after n (q .bits) bits) e),
+)
+
 -- ---- writing
 
 abbrev answerBy : List ℕ → Bool → Bool → Written
@@ -86,7 +99,7 @@ answerBy bytes t u = cond t (cond u (record { result = 0; bytes = length bytes }
 abbrev bufferBy : List ℕ → List ℕ → Bool → List ℕ
 bufferBy bytes out t = cond t (bytes ++ drop (length bytes) out) out
 
-pub buffer-kept : (bytes : List ℕ) (good : Bool) (out : List ℕ) (n : ℕ) → n ≡ writtenAs bytes good out .result → bufferAs bytes good out ≡ after n (bufferAs bytes good out) out
+buffer-kept : (bytes : List ℕ) (good : Bool) (out : List ℕ) (n : ℕ) → n ≡ writtenAs bytes good out .result → bufferAs bytes good out ≡ after n (bufferAs bytes good out) out
 buffer-kept bytes good out n e = go good (fits bytes out) e
   where
     go : (t u : Bool) → n ≡ answerBy bytes t u .result → bufferBy bytes out (t && u) ≡ after n (bufferBy bytes out (t && u)) out
@@ -94,13 +107,42 @@ buffer-kept bytes good out n e = go good (fits bytes out) e
     go true false h = kept n out out (λ z. omega (arith, h, z))
     go false u h = kept n out out (λ z. omega (arith, h, z))
 
-pub few-bytes : (before : List ℕ) (r : Record) (out : List ℕ) → length before ≤ 8 → length (r .places) ≡ mostBlocks → writtenAs (before ++ payload r) (valid r) out .bytes < 4294967296
+few-bytes : (before : List ℕ) (r : Record) (out : List ℕ) → length before ≤ 8 → length (r .places) ≡ mostBlocks → writtenAs (before ++ payload r) (valid r) out .bytes < 4294967296
 few-bytes before r out h e = go (valid r) refl (fits (before ++ payload r) out)
   where
     go : (t : Bool) → valid r ≡ t → (u : Bool) → answerBy (before ++ payload r) t u .bytes < 4294967296
     go true v true = omega (arith, length-append before (payload r), no-payload-is-longer r (record { places = e; valid-record = v }), largest-length)
     go true v false = omega arith
     go false v u = omega arith
+
+-- a row's record, written behind some bytes or none, as it is given
+module _ (before : List ℕ) (row : List ℤ) (out : List ℕ) (l : length row ≡ flatLength) {r : Record} (e : r ≡ recordIn (take flatLength (drop 0 row)))
+    {w : Written} (f : w ≡ writtenAs (before ++ payload r) (valid r) out) where
+  abbrev bytes : List ℕ
+  bytes = before ++ payload (recordIn row)
+
+  abbrev good : Bool
+  good = valid (recordIn row)
+
+  whole : r ≡ recordIn row
+  whole = e ∙ ap recordIn (whole-row row flatLength l)
+
+  answer : w ≡ writtenAs bytes good out
+  answer = f ∙ ap (λ (r : Record). writtenAs (before ++ payload r) (valid r) out) whole
+
+  pub few-written : length before ≤ 8 → w .bytes < 4294967296
+  few-written h = omega (arith, ap (λ (w : Written). w .bytes) answer, few-bytes before (recordIn row) out h (length-in row))
+
+  pub given-written : (k : ℕ) {out′ : List ℕ} {n k′ : ℕ} → out′ ≡ bufferAs (before ++ payload r) (valid r) out → n ≡ w .result → k′ ≡ after n (w .bytes) k
+      → (n ≡ unless (isRecord row) (writtenAs bytes good out .result)) × ((out′ ≡ after n (bufferAs bytes good out) out) × (k′ ≡ after n (writtenAs bytes good out .bytes) k))
+  given-written k {n = n} g h i =
+      let result = h ∙ ap (λ (w : Written). w .result) answer in (
+        result ∙ right (isRecord row) (writtenAs bytes good out .result) (eq-eqb (length row) flatLength l),
+        (
+          g ∙ ap (λ (r : Record). bufferAs (before ++ payload r) (valid r) out) whole ∙ buffer-kept bytes good out n result,
+          i ∙ ap (λ (w : Written). after n (w .bytes) k) answer,
+        ),
+      )
 
 -- ---- a lookup
 

@@ -27,6 +27,9 @@ const WRONG_LENGTH: u32 = 13;
 
 const NOT_VALID: u32 = 14;
 
+// How many numbers the shader gets.
+const SINGLES: usize = 7;
+
 // ---- reading
 
 fn give_reading(reading: Reading, numbers: &mut [i32], bits: &mut u32) -> u32
@@ -132,7 +135,7 @@ pub extern "C" fn pim_shader(numbers: &[i32], bits: &mut [u32]) -> u32
     ensures result { λ r. ⌜ r ≡ unless (eqb (length (now (numbers .entry))) placeLength && eqb (length (now (bits .entry))) singles) (conversionResult (blockNamed (now (numbers .entry)))) ⌝ }
     ensures bits { λ r. ⌜ now (bits .exit) ≡ after r (conversionBits (blockNamed (now (numbers .entry)))) (now (bits .entry)) ⌝ }
 {
-    if (numbers.len() != 8) | (bits.len() != 7) {
+    if (numbers.len() != flat::PLACE) | (bits.len() != SINGLES) {
         return WRONG_LENGTH;
     }
     let block = flat::get_block(numbers, 0);

@@ -1,6 +1,6 @@
 -- What `choose` answers, by its tests.
 use mathlib.Core.Path.{_≡_, refl, sym, _∙_, ap, subst}
-use mathlib.Core.Bool.{Bool, true, false, not, cond}
+use mathlib.Core.Bool.{Bool, true, false, not}
 use lib.Dec.{T}
 use lib.IntN.{ℤ}
 use lib.Signed.{ltZ}
@@ -8,7 +8,7 @@ use mir.Syntax.{w32}
 use mir.Val.{SFits, toZ, ofZ}
 use mir.ValLaws.{toZ-ofZ}
 use Rattle.keyed.specs.Keyed.{Compared, less, same, more}
-use Rattle.plan.specs.Pictures.{Before, order, pictures, before-irreflexive, before-transitive}
+use Rattle.plan.specs.Pictures.{Before, order, before-irreflexive, before-transitive}
 use Rattle.plan.specs.Planning.{Tag, Next, next, numberOf, nextBy, nextOf}
 
 -- a test of two signed locals is a test of their numbers

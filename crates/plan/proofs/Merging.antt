@@ -3,17 +3,17 @@ use mathlib.Core.Path.{_≡_, refl, sym, _∙_, ap, subst}
 use mathlib.Core.Bool.{Bool, true, false, cond}
 use mathlib.Core.List.{List, [], _∷_, _++_, map, append-assoc, append-nil}
 use Prim.Native.Nat.{ℕ, zero, suc, _+_, _≤_, _<_}
-use native.Mathlib.Nat.{zero-add, add-suc, le-antisymm, le-of-suc-le-suc, not-suc-le-zero}
+use native.Mathlib.Nat.{zero-add, le-of-suc-le-suc, not-suc-le-zero}
 use native.Mathlib.Numerals.{add-one}
 use native.Mathlib.Omega.{arith}
 use borrow.Author.Tests.{ltb-true, ltb-false, le-leb, lt-leb, lt-ltb}
-use lib.Dec.{ltb, leb}
+use lib.Dec.{ltb}
 use lib.ListN.{length, take, drop, getD, set, length-set, length-append}
-use lib.Seq.{drop-cons, drop-length, drop-drop, drop-set-lt, take-suc-set, length-take-le, take-all, getD-take}
+use lib.Seq.{drop-cons, drop-drop, drop-set-lt, take-suc-set, length-take-le, take-all, getD-take}
 use lib.IntN.{ℤ, pos}
-use Rattle.keyed.specs.Keyed.{Compared, less, same, more, Above, Rising}
+use Rattle.keyed.specs.Keyed.{Compared, less, same, more}
 use Rattle.keyed.proofs.Laws.{frontBy, join-front, nothing-joined}
-use Rattle.plan.specs.Pictures.{Before, order, pictures, before-irreflexive, before-transitive}
+use Rattle.plan.specs.Pictures.{Before, order, pictures}
 use Rattle.plan.specs.declared.Turn.{Turn}
 use Rattle.plan.specs.declared.Layout.{Layout}
 use Rattle.plan.specs.Planning.{Tag, tag, sourceOf, numberOf, tagsFrom, firstTags, secondTags, joinTags, RisingTags, Next, next, nextBy, nextOf, turnOf, clamped, noSources, refusal, layoutOf}

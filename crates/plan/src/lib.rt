@@ -8,6 +8,13 @@ ghost use Rattle.plan.specs.Scanning.{extentOf, begun, risesAt, noted};
 ghost use Rattle.plan.specs.Planning.{tag, RisingTags, firstTags, secondTags, takenOff, nextOf, turnOf, clamped, refusal, layoutOf, mergedSources, planOf, boundOf, sourceAt, leftOf, rightOf};
 ghost use Rattle.plan.specs.Seeking.{reachOf, seekOf};
 
+// 01, Refusal numbers.
+pub const WRONG_TABLE: u8 = 13;
+
+const TOO_MANY_POINTS: u8 = 15;
+
+const NOT_A_TRACK: u8 = 16;
+
 // A table has exactly this many entries, so a track has no more points.
 pub const POINTS: usize = 64;
 
@@ -182,7 +189,7 @@ pub fn merge(a: [i32; POINTS], n: usize, b: [i32; POINTS], m: usize) -> Layout
     let mut k: usize = 0;
     while i + j < n + m {
         if k == POINTS {
-            return refused(15);
+            return refused(TOO_MANY_POINTS);
         }
         let e = clamp(i);
         let x = a[e];
@@ -201,19 +208,19 @@ pub fn merge(a: [i32; POINTS], n: usize, b: [i32; POINTS], m: usize) -> Layout
     }
 }
 
-// 16 for the first, 16 for the second, 13 for the result's table, then 15.
+// The first track, the second, the result's table, and then the number of points.
 pub fn decide(s: Scanned, n: usize, t: Scanned, m: usize, length: usize) -> Layout
     requires { ⌜ (s .track ≡ true → (n ≤ mostPoints) × RisingTags (firstTags n (s .pictures))) × (t .track ≡ true → (m ≤ mostPoints) × RisingTags (secondTags m (t .pictures))) ⌝ }
     ensures { λ r. ⌜ r ≡ planOf s n t m length ⌝ }
 {
     if !s.track {
-        return refused(16);
+        return refused(NOT_A_TRACK);
     }
     if !t.track {
-        return refused(16);
+        return refused(NOT_A_TRACK);
     }
     if length != POINTS {
-        return refused(13);
+        return refused(WRONG_TABLE);
     }
     let a = s.pictures;
     let b = t.pictures;
@@ -249,7 +256,7 @@ pub fn seek(seen: Scanned, n: usize, picture: i32) -> Found
 {
     if !seen.track {
         return Found {
-            result: 16,
+            result: NOT_A_TRACK,
             found: false,
             at: 0,
         };

@@ -7,20 +7,18 @@ use native.Mathlib.Omega.{arith}
 use borrow.Author.Tests.{eqb-true, eqb-false}
 use lib.Dec.{eqb}
 use lib.ListN.{length, drop}
-use Rattle.bits.specs.declared.Refusal.{Refusal}
 use Rattle.bits.specs.Bits.{Bytes}
-use Rattle.bits.specs.Reading.{Out, ok, no, pastEnd}
 use Rattle.record.specs.Valid.{among, valid}
 use Rattle.syntax.specs.Data.{dataNumbers}
 use Rattle.syntax.proofs.Largest.{most-bits}
 use Rattle.reader.specs.declared.Reading.{Reading}
 use Rattle.writer.proofs.Answers.{written, done}
-use Rattle.wrapper.specs.Wrapper.{wrapperBytes, wrapperDiffers, behind, wrappedData, wrappedPayload}
+use Rattle.wrapper.specs.Wrapper.{wrappedData, wrappedPayload}
 use Rattle.listing.specs.Listing.{listing, listable}
 use Rattle.listing.proofs.Longest.{most-bytes}
 use Rattle.listing.proofs.Different.{accepted-is-given, one-listing-one-reading}
-use Rattle.promises.specs.Functions.{readBare, readWrapped, writeListing, listingBuffer}
-use Rattle.promises.proofs.Reading.{bare-data-gets-a-listed-number, a-refusal-is-empty, accepted-wrapped-means-the-one-payload}
+use Rattle.promises.specs.Functions.{readWrapped, writeListing, listingBuffer}
+use Rattle.promises.proofs.Reading.{wrapped-data-gets-a-listed-number, a-refusal-is-empty, accepted-wrapped-means-the-one-payload}
 
 -- two accepted payloads with one listing are the same bytes
 pub two-payloads-two-listings : (s t : List ℕ) → Bytes s → Bytes t → readWrapped s .result ≡ 0 → readWrapped t .result ≡ 0
@@ -42,29 +40,12 @@ among-bytes n (m ∷ ns) h e = go (eqb n m) refl (among-bytes n ns (h .1))
     go true f g = let x = eqb-true n m f in omega (arith, h .0)
     go false f g = g (rw f at e)
 
-wrapper-number : (ws s : List ℕ) (r : Refusal) → behind ws s ≡ no r → r .number < 256
-unfolding behind
-wrapper-number [] s r e = let x : _≡_ {A = ℕ} 0 1 = cc in absurd (omega arith)
-wrapper-number (w ∷ ws) [] r e = let x : pastEnd ≡ r = cc in let y = ap (λ (q : Refusal). q .number) x in omega arith
-wrapper-number (w ∷ ws) (b ∷ s) r e = go (wrapper-number ws s r) (eqb b w) refl
-  where
-    go : (behind ws s ≡ no r → r .number < 256) → (c : Bool) → eqb b w ≡ c → r .number < 256
-    go further true q = further (rw q at e)
-    go further false q =
-        let f : _≡_ {A = Out (List ℕ)} (no wrapperDiffers) (no r) = rw q at e in
-        let x : wrapperDiffers ≡ r = cc in
-        let y = ap (λ (q : Refusal). q .number) x in omega arith
-
 -- a number is one byte
 one-byte : (s : List ℕ) → readWrapped s .result < 256
-one-byte s = go (behind wrapperBytes s) refl
+one-byte s = among-bytes (readWrapped s .result) (0 ∷ 3 ∷ dataNumbers) small (wrapped-data-gets-a-listed-number s)
   where
-    small : Bytes (0 ∷ dataNumbers)
-    small = (omega arith, (omega arith, (omega arith, (omega arith, (omega arith, (omega arith, (omega arith, (omega arith, (omega arith, (omega arith, (omega arith, (omega arith, tt))))))))))))
-
-    go : (o : Out (List ℕ)) → behind wrapperBytes s ≡ o → readWrapped s .result < 256
-    go (ok t n) q = rw q (among-bytes (readBare t .result) (0 ∷ dataNumbers) small (bare-data-gets-a-listed-number t))
-    go (no r) q = rw q (wrapper-number wrapperBytes s r q)
+    small : Bytes (0 ∷ 3 ∷ dataNumbers)
+    small = (omega arith, (omega arith, (omega arith, (omega arith, (omega arith, (omega arith, (omega arith, (omega arith, (omega arith, (omega arith, (omega arith, (omega arith, (omega arith, tt)))))))))))))
 
 -- what is read can be listed, and its bits are few
 listable-bits : (s : List ℕ) → Bytes s → (listable (readWrapped s) ≡ true) × (readWrapped s .bits < 2 ^ 32)

@@ -1,26 +1,24 @@
 -- Demand 1 for reading, and the reading half of demand 2.
-use Prim.Native.Nat.{ℕ, zero, suc, _+_}
+use Prim.Native.Nat.{ℕ}
 use mathlib.Core.Path.{_≡_, refl, ap, sym, _∙_}
-use mathlib.Core.List.{List, [], _∷_, _++_}
+use mathlib.Core.List.{List, _∷_, _++_}
 use mathlib.Core.Bool.{Bool, true, false, _||_}
 use native.Mathlib.Omega.{arith}
 use lib.Dec.{eqb}
-use lib.ListN.{drop}
-use borrow.Author.Tests.{eqb-true, eq-eqb}
 use Rattle.bits.specs.declared.Refusal.{Refusal}
 use Rattle.bits.specs.Bits.{bitsOf, Bytes}
-use Rattle.bits.specs.Reading.{Out, ok, no, pastEnd}
-use Rattle.bits.proofs.Codes.{no-not-ok}
+use Rattle.bits.specs.Reading.{Out, ok, no}
+use Rattle.bits.proofs.Lists.{bytes-drop}
 use Rattle.record.specs.declared.Record.{Record}
-use Rattle.record.specs.Valid.{emptyRecord, among, valid, Valid}
+use Rattle.record.specs.Valid.{emptyRecord, among, Valid}
 use Rattle.record.proofs.Clauses.{valid-means}
 use Rattle.syntax.specs.Element.{payload, bitsOfData}
 use Rattle.syntax.specs.Data.{«ST2094-10_data», dataNumbers}
 use Rattle.syntax.proofs.Exact.{Proper, accepted-is-the-one-payload, the-payload-is-accepted}
 use Rattle.syntax.proofs.Refusals.{data-refuses}
 use Rattle.reader.specs.Reading.{readingOf}
-use Rattle.wrapper.specs.Wrapper.{wrapperBytes, wrapperDiffers, behind, wrappedPayload}
-use Rattle.wrapper.proofs.Laws.{behind-is}
+use Rattle.wrapper.specs.Wrapper.{wrapperBytes, behind, wrappedPayload}
+use Rattle.wrapper.proofs.Laws.{behind-starts, behind-is, behind-takes, behind-refuses}
 use Rattle.promises.specs.Functions.{readBare, readWrapped}
 
 -- ---- the number of an answer says which kind it is
@@ -82,39 +80,19 @@ one-record-one-payload s t hs ht es et e = accepted-means-the-one-payload s hs e
 
 -- ---- the same of wrapped data
 
-bytes-drop : (n : ℕ) (s : List ℕ) → Bytes s → Bytes (drop n s)
-bytes-drop zero s h = h
-bytes-drop (suc n) [] h = tt
-bytes-drop (suc n) (b ∷ s) h = bytes-drop n s (h .1)
-
-wrapper-refusal : (ws s : List ℕ) (r : Refusal) → behind ws s ≡ no r → r .number ≡ 0 → ⊥
-unfolding behind
-wrapper-refusal [] s r e z = let x : _≡_ {A = ℕ} 0 1 = cc in omega arith
-wrapper-refusal (w ∷ ws) [] r e z = let x : pastEnd ≡ r = cc in let y = ap (λ (q : Refusal). q .number) x in omega arith
-wrapper-refusal (w ∷ ws) (b ∷ s) r e z = go (wrapper-refusal ws s r) (eqb b w) refl
+-- wrapped data gets one of the same numbers, or 3
+pub wrapped-data-gets-a-listed-number : (s : List ℕ) → among (readWrapped s .result) (0 ∷ 3 ∷ dataNumbers) ≡ true
+unfolding among
+wrapped-data-gets-a-listed-number s = go (behind wrapperBytes s) refl
   where
-    go : (behind ws s ≡ no r → r .number ≡ 0 → ⊥) → (c : Bool) → eqb b w ≡ c → ⊥
-    go further true q = further (rw q at e) z
-    go further false q =
-        let f : _≡_ {A = Out (List ℕ)} (no wrapperDiffers) (no r) = rw q at e in
-        let x : wrapperDiffers ≡ r = cc in
-        let y = ap (λ (q : Refusal). q .number) x in omega arith
+    or-more : (a b c : Bool) → a || c ≡ true → a || (b || c) ≡ true
+    or-more true b c e = refl
+    or-more false true c e = refl
+    or-more false false c e = e
 
--- the wrapper's bytes are there
-behind-starts : (ws s t : List ℕ) (n : ℕ) → behind ws s ≡ ok t n → s ≡ ws ++ t
-unfolding behind
-behind-starts [] s t n e = let x : s ≡ t = cc in x
-behind-starts (w ∷ ws) [] t n e = no-not-ok e
-behind-starts (w ∷ ws) (b ∷ s) t n e = go (behind-starts ws s t n) (eqb b w) refl
-  where
-    go : (behind ws s ≡ ok t n → s ≡ ws ++ t) → (c : Bool) → eqb b w ≡ c → b ∷ s ≡ w ∷ (ws ++ t)
-    go further true q = let f = further (rw q at e) in let x = eqb-true b w q in cc
-    go further false q = no-not-ok (rw q at e)
-
-behind-takes : (ws t : List ℕ) → behind ws (ws ++ t) ≡ ok t 0
-unfolding behind
-behind-takes [] t = refl
-behind-takes (w ∷ ws) t = rw (eq-eqb w w refl) (behind-takes ws t)
+    go : (o : Out (List ℕ)) → behind wrapperBytes s ≡ o → among (readWrapped s .result) (0 ∷ 3 ∷ dataNumbers) ≡ true
+    go (ok t n) q = rw q (or-more (eqb (readBare t .result) 0) (eqb (readBare t .result) 3) (among (readBare t .result) dataNumbers) (bare-data-gets-a-listed-number t))
+    go (no r) q = rw q (behind-refuses (λ (r : Refusal). among (r .number) (0 ∷ 3 ∷ dataNumbers) ≡ true) refl refl wrapperBytes s r q)
 
 -- an accepted wrapped input is the wrapper and the one payload of the record; the wrapper is not counted
 pub accepted-wrapped-means-the-one-payload : (s : List ℕ) → Bytes s → readWrapped s .result ≡ 0
@@ -128,7 +106,11 @@ accepted-wrapped-means-the-one-payload s h = go (behind wrapperBytes s) refl
         let f : readBare t .result ≡ 0 = rw q at e in
         let a = accepted-means-the-one-payload t b f in
         rw q (a .0, behind-starts wrapperBytes s t n q ∙ ap (λ (l : List ℕ). wrapperBytes ++ l) (a .1), a .2)
-    go (no r) q e = absurd (wrapper-refusal wrapperBytes s r q (rw q at e))
+    go (no r) q e = absurd (behind-refuses (λ (r : Refusal). r .number ≡ 0 → ⊥) (λ z. omega arith) (λ z. omega arith) wrapperBytes s r q (rw q at e))
 
 pub every-valid-record-is-read-wrapped : (r : Record) → Proper r → readWrapped (wrappedPayload r) ≡ record { result = 0; bits = bitsOfData r; «record» = r }
 every-valid-record-is-read-wrapped r p = rw (behind-takes wrapperBytes (payload r)) (every-valid-record-is-read r p)
+
+pub one-record-one-wrapped-payload : (s t : List ℕ) → Bytes s → Bytes t → readWrapped s .result ≡ 0 → readWrapped t .result ≡ 0 → readWrapped s .«record» ≡ readWrapped t .«record» → s ≡ t
+one-record-one-wrapped-payload s t hs ht es et e =
+    accepted-wrapped-means-the-one-payload s hs es .1 ∙ ap wrappedPayload e ∙ sym (accepted-wrapped-means-the-one-payload t ht et .1)

@@ -11,7 +11,7 @@ use lib.IntN.{ℤ}
 use lib.ListN.{length, drop, replicate, length-append, length-drop, length-replicate}
 use lib.Seq.{take-at, length-take-le}
 use Rattle.record.proofs.Laws.{and-left, and-right, and-both}
-use Rattle.keyed.specs.Keyed.{Compared, less, same, more, heldAtBy, join}
+use Rattle.keyed.specs.Keyed.{Compared, less, same, more, heldAtBy}
 use Rattle.keyed.proofs.Laws.{some-one, some-none}
 use Rattle.keyed.proofs.Mapped.{All, join-all}
 use Rattle.plan.specs.Limit.{mostPoints}

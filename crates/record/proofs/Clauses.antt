@@ -15,7 +15,7 @@ use Rattle.record.specs.declared.Block.{Block}
 use Rattle.record.specs.declared.Block.the-variants.{Nothing, Level1, Level2, Level5}
 use Rattle.record.specs.declared.Record.{Record}
 use Rattle.record.specs.Level.{level, levelOf}
-use Rattle.record.specs.Valid.{mostBlocks, blockIn, allBlocks, blocks, beyond, every, isBlock, isNothing, inRange, inOrder, many, targets, different, fine, mayFollow, wellFormed, Valid, valid, emptyRecord, withBlock}
+use Rattle.record.specs.Valid.{mostBlocks, blockIn, allBlocks, blocks, beyond, every, isBlock, isNothing, inRange, inOrder, many, targets, allDiffer, fine, mayFollow, wellFormed, Valid, valid, emptyRecord, withBlock}
 use Rattle.record.proofs.Laws.{same-test, and-right, and-both, tests, every-more, many-more, targets-more, well-formed-append}
 
 -- a list with one block more passes the walk exactly if it did before, and the block is fine and may follow
@@ -63,7 +63,7 @@ abbrev clauses : List Block → Bool
 clauses bs =
     every isBlock bs && every inRange bs && every inOrder bs
     && leb (many 1 bs) (level 1 .most) && leb (many 2 bs) (level 2 .most) && leb (many 5 bs) (level 5 .most)
-    && different (targets bs)
+    && allDiffer (targets bs)
 
 clauses-more : (bs : List Block) (b : Block) → clauses (bs ++ (b ∷ [])) ≡ clauses bs && (fine b && mayFollow bs b)
 unfolding mayFollow
@@ -86,8 +86,8 @@ pub walk-is-clauses : (bs : List Block)
     → wellFormed [] bs
     ≡ every isBlock bs && every inRange bs && every inOrder bs
     && leb (many 1 bs) (level 1 .most) && leb (many 2 bs) (level 2 .most) && leb (many 5 bs) (level 5 .most)
-    && different (targets bs)
-unfolding wellFormed every many different targets
+    && allDiffer (targets bs)
+unfolding wellFormed every many allDiffer targets
 walk-is-clauses bs = walk-clauses [] bs refl
 
 -- a record is valid exactly if it has at most 18 blocks, no block where the flag is 0, a list of blocks that passes the walk, and nothing behind them
@@ -109,7 +109,7 @@ flag-decides r h w e = rw (valid-is-walk r, le-leb (r .count) mostBlocks h, ← 
 
 -- the empty record is valid
 pub empty-is-valid : valid emptyRecord ≡ true
-unfolding valid every many different targets
+unfolding valid every many allDiffer targets
 empty-is-valid = refl
 
 -- where a block's own level has room, each level has

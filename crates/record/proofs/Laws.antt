@@ -14,7 +14,7 @@ use Rattle.record.specs.declared.Block.{Block}
 use Rattle.record.specs.declared.Block.the-variants.{Nothing, Level1, Level2, Level5}
 use Rattle.record.specs.declared.Record.{Record}
 use Rattle.record.specs.Level.{level, reserved, levelOf}
-use Rattle.record.specs.Valid.{nowhere, blockIn, allBlocks, every, many, targets, among, different, newTarget, fine, mayFollow, wellFormed}
+use Rattle.record.specs.Valid.{nowhere, blockIn, allBlocks, every, many, targets, among, allDiffer, newTarget, fine, mayFollow, wellFormed}
 
 -- ---- tests
 
@@ -62,7 +62,7 @@ targets-append (Level1 min max avg ∷ xs) ys = targets-append xs ys
 targets-append (Level2 t s o p c g m ∷ xs) ys = ap (λ (ts : List ℕ). t ∷ ts) (targets-append xs ys)
 targets-append (Level5 l r t b ∷ xs) ys = targets-append xs ys
 
-among-append : (x : ℕ) (ys zs : List ℕ) → among x (ys ++ zs) ≡ among x ys || among x zs
+pub among-append : (x : ℕ) (ys zs : List ℕ) → among x (ys ++ zs) ≡ among x ys || among x zs
 unfolding among
 among-append x [] zs = refl
 among-append x (y ∷ ys) zs = rw (among-append x ys zs, or-assoc)
@@ -106,22 +106,22 @@ unfolding many
 many-more l [] b = omega arith
 many-more l (x ∷ bs) b = omega (arith, many-more l bs b)
 
--- the tests of `different-more`, in its order
+-- the tests of `all-differ-more`, in its order
 shuffle : (p q d r : Bool) → not (p || (q || false)) && (d && not r) ≡ not p && d && not (q || r)
 shuffle true q d r = refl
 shuffle false true d r = sym (and-false d)
 shuffle false false d r = refl
 
-different-more : (xs : List ℕ) (x : ℕ) → different (xs ++ (x ∷ [])) ≡ different xs && not (among x xs)
-unfolding different among
-different-more [] x = refl
-different-more (y ∷ ys) x = rw (among-append y ys (x ∷ []), different-more ys x, eqb-turned y x, shuffle)
+all-differ-more : (xs : List ℕ) (x : ℕ) → allDiffer (xs ++ (x ∷ [])) ≡ allDiffer xs && not (among x xs)
+unfolding allDiffer among
+all-differ-more [] x = refl
+all-differ-more (y ∷ ys) x = rw (among-append y ys (x ∷ []), all-differ-more ys x, eqb-turned y x, shuffle)
 
-pub targets-more : (bs : List Block) (b : Block) → different (targets (bs ++ (b ∷ []))) ≡ different (targets bs) && newTarget bs b
+pub targets-more : (bs : List Block) (b : Block) → allDiffer (targets (bs ++ (b ∷ []))) ≡ allDiffer (targets bs) && newTarget bs b
 unfolding targets
 targets-more bs Nothing = rw (targets-append bs (Nothing ∷ []), append-nil, and-true)
 targets-more bs (Level1 min max avg) = rw (targets-append bs (Level1 min max avg ∷ []), append-nil, and-true)
-targets-more bs (Level2 t s o p c g m) = rw (targets-append bs (Level2 t s o p c g m ∷ []), different-more)
+targets-more bs (Level2 t s o p c g m) = rw (targets-append bs (Level2 t s o p c g m ∷ []), all-differ-more)
 targets-more bs (Level5 l r t b) = rw (targets-append bs (Level5 l r t b ∷ []), append-nil, and-true)
 
 -- ---- the blocks of a record, place by place

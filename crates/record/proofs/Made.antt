@@ -2,20 +2,19 @@
 use Prim.Native.Nat.{ℕ, zero, suc, _+_, _-_, _<_, _≤_}
 use mathlib.Core.Path.{_≡_, refl, ap, sym, _∙_}
 use mathlib.Core.List.{List, [], _∷_, _++_, map, append-assoc}
-use mathlib.Core.Bool.{Bool, true, false, _&&_, _||_}
+use mathlib.Core.Bool.{Bool, true, _||_}
 use native.Mathlib.Omega.{arith}
-use borrow.Author.Tests.{eqb-true, leb-true, le-leb}
-use lib.Dec.{eqb, leb}
-use lib.ListN.{length, take, drop, set, replicate, length-append, length-replicate, length-map, length-take, length-drop, take-append-drop}
+use borrow.Author.Tests.{leb-true, le-leb}
+use lib.Dec.{eqb}
+use lib.ListN.{length, take, drop, replicate, length-append, length-replicate, length-map, length-take, length-drop, take-append-drop}
 use lib.Seq.{set-at, take-at, drop-at}
 use Rattle.record.specs.declared.Block.{Block}
 use Rattle.record.specs.declared.Block.the-variants.{Nothing, Level1, Level2, Level5}
 use Rattle.record.specs.declared.Place.{Place}
 use Rattle.record.specs.declared.Record.{Record}
-use Rattle.record.specs.Level.{levelOf}
 use Rattle.record.specs.Valid.{mostBlocks, nowhere, blockIn, allBlocks, blocks, beyond, every, isNothing, wellFormed, valid, withBlock}
 use Rattle.record.specs.Made.{placeOf, recordOf}
-use Rattle.record.proofs.Laws.{and-left, and-right, and-both, tests}
+use Rattle.record.proofs.Laws.{and-left, and-right, tests}
 use Rattle.record.proofs.Clauses.{valid-is-walk}
 
 -- a record by its parts

@@ -1,5 +1,5 @@
 -- Each public contract admits one answer: said of the contract itself, as the check reads it.
-use mathlib.Core.Path.{_≡_, sym, _∙_}
+use mathlib.Core.Path.{sym, _∙_}
 use Rattle.bits.proofs.OneAnswer.{OneResult}
 use Rattle.record.proofs.Record.without_blocks.Kinds as without-blocks
 use Rattle.record.proofs.Record.without_blocks.Reads as without-blocks-contract

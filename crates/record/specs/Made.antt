@@ -1,5 +1,5 @@
 -- A record made of a flag and blocks.
-use Prim.Native.Nat.{ℕ, _-_, _+_}
+use Prim.Native.Nat.{_-_, _+_}
 use mathlib.Core.List.{List, _++_, map}
 use mathlib.Core.Bool.{Bool}
 use lib.ListN.{length, replicate}

@@ -1,10 +1,10 @@
 -- When a record is valid, clause by clause (01, The record; The data, bit by bit).
-use Prim.Native.Nat.{ℕ, _+_, _<_, _≤_}
+use Prim.Native.Nat.{ℕ, _+_, _≤_}
 use mathlib.Core.Path.{_≡_}
 use mathlib.Core.List.{List, [], _∷_, _++_, map}
 use mathlib.Core.Bool.{Bool, true, false, not, _&&_, _||_}
 use lib.Dec.{leb, ltb, eqb}
-use lib.ListN.{length, take, drop, set, replicate}
+use lib.ListN.{take, drop, set, replicate}
 use Rattle.bits.specs.Bits.{bit}
 use Rattle.bits.specs.Coding.{holdAll}
 use Rattle.record.specs.declared.Block.{Block}
@@ -80,9 +80,9 @@ among x [] = false
 among x (y ∷ ys) = eqb x y || among x ys
 
 -- no number twice
-unfoldable pub different : List ℕ → Bool
-different [] = true
-different (x ∷ xs) = not (among x xs) && different xs
+unfoldable pub allDiffer : List ℕ → Bool
+allDiffer [] = true
+allDiffer (x ∷ xs) = not (among x xs) && allDiffer xs
 
 -- the clauses of a valid record
 pub record Valid (r : Record) : Type 0 where
@@ -93,7 +93,7 @@ pub record Valid (r : Record) : Type 0 where
   pub ranges : every inRange (blocks r) ≡ true
   pub order : every inOrder (blocks r) ≡ true
   pub levels : (l : ℕ) → many l (blocks r) ≤ level l .most
-  pub targetsDiffer : different (targets (blocks r)) ≡ true
+  pub targetsDiffer : allDiffer (targets (blocks r)) ≡ true
 
 -- the same, decided
 unfoldable pub valid : Record → Bool
@@ -101,7 +101,7 @@ valid r =
     leb (r .count) mostBlocks && every isBlock (blocks r) && every isNothing (beyond r) && (r .refresh || eqb (r .count) 0)
     && every inRange (blocks r) && every inOrder (blocks r)
     && leb (many 1 (blocks r)) (level 1 .most) && leb (many 2 (blocks r)) (level 2 .most) && leb (many 5 (blocks r)) (level 5 .most)
-    && different (targets (blocks r))
+    && allDiffer (targets (blocks r))
 
 -- a block that no level 2 block before it has the target_max_PQ of
 abbrev pub newTarget : List Block → Block → Bool

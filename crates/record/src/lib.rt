@@ -3,9 +3,9 @@ ghost use mathlib.Core.Path.{_≡_};
 ghost use mathlib.Core.Bool.{true, false, not};
 ghost use mathlib.Core.List.{[], _∷_};
 ghost use Prim.Native.Nat.{_+_, _<_, _≤_};
-ghost use lib.ListN.{take, drop};
+ghost use lib.ListN.{take};
 ghost use Rattle.record.specs.Level.{level, known, padding, levelOf};
-ghost use Rattle.record.specs.Valid.{mostBlocks, noBlocks, emptyRecord, allBlocks, every, isBlock, isNothing, inRange, inOrder, newTarget, mayFollow, many, withBlock, valid, wellFormed};
+ghost use Rattle.record.specs.Valid.{mostBlocks, noBlocks, emptyRecord, allBlocks, inRange, inOrder, newTarget, mayFollow, withBlock, valid};
 
 // What a place holds: nothing, or a block of one of the three levels with that level's own fields, named as in A/341.
 pub enum Block {

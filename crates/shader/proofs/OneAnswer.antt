@@ -1,10 +1,9 @@
 -- The contract of the conversion admits one answer: bits determine a single-precision number.
 use Prim.Native.Nat.{ℕ}
 use mathlib.Core.Path.{_≡_, sym, ap, _∙_}
-use mathlib.Core.List.{List, [], _∷_}
 use contract.Lifetimes.{Lfts}
 use denote.Triple.Clauses.{AtExit}
-use borrow.Fn.Kinds.{Dens, resT, endedOf}
+use borrow.Fn.Kinds.{Dens, endedOf}
 use lib.Dec.{T}
 use lib.Ieee.{Float, binary32, toBits, ofBits, fits}
 use lib.Ieee.Bits.{ofBits-toBits}

@@ -1,16 +1,16 @@
 -- A block is read from exactly one code, and so are blocks behind each other.
-use Prim.Native.Nat.{ℕ, zero, suc, _+_, _*_, _^_, _<_, _≤_}
+use Prim.Native.Nat.{ℕ, zero, suc, _+_, _^_, _<_}
 use mathlib.Core.Path.{_≡_, refl, ap, sym, _∙_}
-use mathlib.Core.List.{List, [], _∷_, _++_, append-assoc, append-nil, map}
-use mathlib.Core.Bool.{Bool, true, false, cond, not, _&&_, _||_}
+use mathlib.Core.List.{List, [], _∷_, _++_, append-nil, map}
+use mathlib.Core.Bool.{Bool, true, false, cond, _&&_}
 use native.Mathlib.Omega.{arith}
-use borrow.Author.Tests.{eqb-true, eq-eqb, ltb-true}
-use lib.Dec.{eqb, ltb}
-use lib.ListN.{length, drop, replicate}
+use borrow.Author.Tests.{eqb-true, eq-eqb}
+use lib.Dec.{eqb}
+use lib.ListN.{length, replicate}
 use lib.IntN.{ℤ, pos, negsuc}
 use Rattle.bits.specs.Bits.{code}
-use Rattle.bits.specs.Reading.{Out, ok, no, Reader, andThen, mapped, u, ue, zeros}
-use Rattle.bits.specs.Coding.{Coding, unsigned, signed, holds, holdAll, fields, fieldsCode, totalWidth}
+use Rattle.bits.specs.Reading.{ok, no, andThen, mapped, u, ue, zeros}
+use Rattle.bits.specs.Coding.{Coding, unsigned, holds, holdAll, fields, fieldsCode}
 use Rattle.bits.specs.Codes.{Codes, ueCode}
 use Rattle.bits.proofs.Codes.{codes-iff, codes-same, codes-ok, codes-test, codes-map, codes-then}
 use Rattle.bits.proofs.Elements.{codes-u, codes-ue, codes-zeros, codes-fields, AllProper}

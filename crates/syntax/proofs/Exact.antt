@@ -1,26 +1,25 @@
 -- Exactness: the walk accepts exactly the one payload of each valid record, with the record and the sum of its widths.
-use Prim.Native.Nat.{ℕ, zero, suc, _+_, _-_, _*_, _/_, _%_, _<_, _≤_}
+use Prim.Native.Nat.{ℕ, _+_, _-_, _/_, _%_, _≤_}
 use mathlib.Core.Path.{_≡_, refl, ap, sym, _∙_}
 use mathlib.Core.List.{List, [], _∷_, _++_, append-nil}
-use mathlib.Core.Bool.{Bool, true, false, cond, not, _||_}
+use mathlib.Core.Bool.{Bool, true, false, _||_}
 use native.Mathlib.Omega.{arith}
 use borrow.Author.Tests.{eqb-true, eq-eqb}
 use lib.Dec.{eqb}
 use lib.ListN.{length, drop, replicate, length-append, length-replicate}
 use lib.Seq.{drop-at}
 use Rattle.bits.specs.Bits.{bitsOf, pack, Bytes}
-use Rattle.bits.specs.Reading.{Out, ok, no, Reader, andThen, mapped, aligned, toBoundary}
+use Rattle.bits.specs.Reading.{Out, ok, no, mapped, aligned, toBoundary}
 use Rattle.bits.specs.Codes.{Codes}
 use Rattle.bits.proofs.Bits.{bits-pack, pack-bits, packed-bytes}
 use Rattle.bits.proofs.Codes.{codes-iff, codes-same, codes-map, codes-then, no-not-ok}
 use Rattle.bits.proofs.Elements.{codes-aligned}
-use Rattle.record.specs.declared.Block.{Block}
 use Rattle.record.specs.declared.Record.{Record}
 use Rattle.record.specs.Valid.{mostBlocks, blocks, wellFormed, valid}
 use Rattle.record.specs.Made.{recordOf}
-use Rattle.record.proofs.Made.{blocks-made, places-made, valid-made, valid-is-made, walked, Walked, length-blocks}
-use Rattle.syntax.specs.Element.{Element, allBits, sumOfWidths, toByte, openElements, blocksElements, elements, payload, bitsOfData}
-use Rattle.syntax.specs.Data.{Head, appIdentifier, someBlocks, blocksAfter, headAndBlocks, wholeBytes, «ST2094-10_data», bytesRemain}
+use Rattle.record.proofs.Made.{blocks-made, places-made, valid-made, valid-is-made, walked, length-blocks}
+use Rattle.syntax.specs.Element.{allBits, openElements, blocksElements, elements, payload, bitsOfData}
+use Rattle.syntax.specs.Data.{Head, appIdentifier, someBlocks, blocksAfter, headAndBlocks, wholeBytes, «ST2094-10_data»}
 use Rattle.syntax.proofs.Rows.{bits-append, length-all}
 use Rattle.syntax.proofs.Blocks.{codes-blocks}
 use Rattle.syntax.proofs.Head.{Announced, codes-open, bits-to-byte}

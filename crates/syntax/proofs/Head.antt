@@ -1,7 +1,7 @@
 -- What stands before the blocks is read from exactly one code of a flag and a number of blocks.
 use Prim.Native.Nat.{ℕ, zero, suc, _+_, _^_, _<_, _≤_}
 use mathlib.Core.Path.{_≡_, refl, ap, sym, _∙_}
-use mathlib.Core.List.{List, [], _∷_, _++_, append-nil}
+use mathlib.Core.List.{List, [], _++_, append-nil}
 use mathlib.Core.Bool.{Bool, true, false, cond, not}
 use native.Mathlib.Omega.{arith}
 use borrow.Author.Tests.{eqb-true, eq-eqb, leb-true, le-leb}
@@ -9,7 +9,7 @@ use lib.Dec.{eqb, leb}
 use lib.ListN.{length, replicate}
 use Rattle.bits.specs.declared.Refusal.{Refusal}
 use Rattle.bits.specs.Bits.{bit, code}
-use Rattle.bits.specs.Reading.{Out, ok, no, Reader, andThen, u, ue, aligned, toBoundary}
+use Rattle.bits.specs.Reading.{ok, no, Reader, andThen, u, ue, aligned, toBoundary}
 use Rattle.bits.specs.Codes.{Codes, ueCode}
 use Rattle.bits.proofs.Codes.{codes-iff, codes-same, codes-ok, codes-test, codes-then}
 use Rattle.bits.proofs.Elements.{codes-u, codes-ue, codes-aligned}

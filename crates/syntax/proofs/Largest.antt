@@ -1,13 +1,13 @@
 -- The largest payload: no valid record has a longer one than `largest`, and that one has 224 bytes.
-use Prim.Native.Nat.{ℕ, zero, suc, _+_, _-_, _*_, _/_, _%_, _^_, _<_, _≤_}
-use mathlib.Core.Path.{_≡_, refl, ap, sym, _∙_}
+use Prim.Native.Nat.{ℕ, zero, suc, _+_, _-_, _*_, _/_, _≤_}
+use mathlib.Core.Path.{_≡_, refl, ap, _∙_}
 use mathlib.Core.List.{List, [], _∷_, _++_}
 use mathlib.Core.Bool.{Bool, true, false, cond}
 use native.Mathlib.Omega.{arith}
 use lib.Dec.{eqb}
 use lib.ListN.{length, replicate}
 use Rattle.bits.specs.Coding.{totalWidth, holdAll}
-use Rattle.bits.specs.Codes.{halvings, zerosOf}
+use Rattle.bits.specs.Codes.{halvings}
 use Rattle.bits.specs.Reading.{toBoundary}
 use Rattle.bits.proofs.Bits.{length-packed}
 use Rattle.bits.proofs.Elements.{zeros-few}
@@ -15,9 +15,9 @@ use Rattle.record.specs.declared.Block.{Block}
 use Rattle.record.specs.declared.Block.the-variants.{Nothing, Level1, Level2, Level5}
 use Rattle.record.specs.declared.Record.{Record}
 use Rattle.record.specs.Name.{Name}
-use Rattle.record.specs.Valid.{mostBlocks, blocks, many, valid, every, targets, among, different}
+use Rattle.record.specs.Valid.{mostBlocks, blocks, many, valid, every, targets, among, allDiffer}
 use Rattle.record.proofs.Clauses.{valid-means}
-use Rattle.syntax.specs.Element.{Element, width, allBits, sumOfWidths, zeroBit, toByte, fieldElements, blockElements, blocksElements, headElements, openElements, elements, payload, bitsOfData}
+use Rattle.syntax.specs.Element.{Element, allBits, sumOfWidths, zeroBit, toByte, fieldElements, blockElements, blocksElements, headElements, openElements, elements, payload, bitsOfData}
 use Rattle.syntax.specs.Largest.{largest, trims}
 use Rattle.syntax.proofs.Rows.{length-all}
 use Rattle.syntax.proofs.Exact.{Proper}
@@ -90,7 +90,7 @@ pub largest-length : length (payload largest) ≡ 224
 largest-length = payload-length largest ∙ ap (λ (n : ℕ). n / 8) largest-bits
 
 pub largest-proper : Proper largest
-unfolding largest trims valid every many targets among different holdAll
+unfolding largest trims valid every many targets among allDiffer holdAll
 largest-proper = record { places = refl; valid-record = refl }
 
 pub no-payload-is-longer : (r : Record) → Proper r → length (payload r) ≤ length (payload largest)

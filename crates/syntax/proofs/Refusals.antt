@@ -2,11 +2,11 @@
 use Prim.Native.Nat.{ℕ, zero, suc}
 use mathlib.Core.Path.{_≡_, refl}
 use mathlib.Core.List.{List, [], _∷_, _++_}
-use mathlib.Core.Bool.{Bool, true, false, cond}
+use mathlib.Core.Bool.{true, false, cond}
 use lib.Dec.{eqb, leb}
 use lib.ListN.{length}
 use Rattle.bits.specs.declared.Refusal.{Refusal}
-use Rattle.bits.specs.Reading.{Out, ok, no, Reader, andThen, mapped, aligned, u, ue, zeros}
+use Rattle.bits.specs.Reading.{ok, no, Reader, andThen, mapped, aligned, u, ue, zeros}
 use Rattle.bits.specs.Coding.{fields}
 use Rattle.bits.specs.Codes.{Refuses}
 use Rattle.bits.proofs.Refuses.{refuses-ok, refuses-no, refuses-test, refuses-map, refuses-then, refuses-u, refuses-ue, refuses-zeros, refuses-fields, refuses-aligned}

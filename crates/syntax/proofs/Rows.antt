@@ -1,14 +1,13 @@
 -- Laws of rows of elements: their bits and their widths.
-use Prim.Native.Nat.{ℕ, zero, suc, _+_, _*_}
+use Prim.Native.Nat.{ℕ, zero, suc, _+_}
 use mathlib.Core.Path.{_≡_, refl, ap, sym, _∙_}
 use mathlib.Core.List.{List, [], _∷_, _++_, append-assoc, map}
-use mathlib.Core.Bool.{Bool, true, false, _&&_}
+use mathlib.Core.Bool.{Bool, false}
 use native.Mathlib.Omega.{arith}
 use lib.ListN.{length, replicate, length-append}
-use lib.IntN.{ℤ, pos, negsuc}
+use lib.IntN.{ℤ}
 use Rattle.bits.specs.Bits.{code}
-use Rattle.bits.specs.Coding.{Coding, unsigned, widthOf, complement, holds, holdAll, fieldCode, fieldsCode}
-use Rattle.bits.specs.Codes.{zerosOf, ueCode}
+use Rattle.bits.specs.Coding.{Coding, widthOf, complement, fieldCode, fieldsCode}
 use Rattle.bits.proofs.Bits.{length-code}
 use Rattle.bits.proofs.Elements.{length-ue}
 use Rattle.record.specs.Name.{Name}

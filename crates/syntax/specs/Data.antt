@@ -7,7 +7,7 @@ use lib.Dec.{eqb, leb}
 use lib.ListN.{length, getD}
 use lib.IntN.{ℤ, pos}
 use Rattle.bits.specs.declared.Refusal.{Refusal}
-use Rattle.bits.specs.Reading.{Out, ok, no, Reader, andThen, mapped, u, ue, zeros, aligned}
+use Rattle.bits.specs.Reading.{ok, no, Reader, andThen, mapped, u, ue, zeros, aligned}
 use Rattle.bits.specs.Coding.{fields}
 use Rattle.record.specs.declared.Block.{Block}
 use Rattle.record.specs.declared.Block.the-variants.{Nothing, Level1, Level2, Level5}

@@ -8,7 +8,7 @@ use native.Mathlib.Omega.{arith}
 use lib.IntN.{ℤ, pos}
 use lib.ListN.{length, take, drop, getD, replicate, length-append, length-drop, length-replicate}
 use lib.Seq.{getD-drop, getD-take, take-all, length-take-le}
-use Rattle.record.specs.Valid.{valid, every, many, targets, different, emptyRecord}
+use Rattle.record.specs.Valid.{valid, every, many, targets, allDiffer, emptyRecord}
 use Rattle.record.proofs.Laws.{and-left, and-right}
 use Rattle.keyed.proofs.Mapped.{All}
 use Rattle.plan.specs.Limit.{mostPoints}
@@ -81,7 +81,7 @@ all-drop (suc n) [] g = g
 all-drop (suc n) (x ∷ xs) g = all-drop n xs (g .1)
 
 cleared-typed : TypedPoint cleared
-unfolding cleared valid every many targets different
+unfolding cleared valid every many targets allDiffer
 cleared-typed = valid-is-typed emptyRecord refl refl
 
 all-cleared : (n : ℕ) → AllTyped (replicate n cleared)

@@ -6,19 +6,18 @@ use mathlib.Core.Option.{Option, none, some}
 use Prim.Native.Nat.{ℕ, zero, suc, _-_, _<_, _≤_}
 use native.Mathlib.Omega.{arith}
 use borrow.Author.Tests.{ne-eqb}
-use lib.Dec.{T, eqb}
+use lib.Dec.{T}
 use lib.IntN.{ℤ}
 use lib.Signed.{ltZ}
-use lib.ListN.{length, take, getD, length-map}
+use lib.ListN.{length, take, length-map}
 use lib.Seq.{length-take-le, getD-take}
 use Rattle.keyed.specs.Keyed.{orElse, Compared, less, same, more, Above, inForceBy}
 use Rattle.plan.specs.declared.Found.{Found}
 use Rattle.plan.specs.Pictures.{Before, order, pictures, before-irreflexive, before-transitive}
 use Rattle.plan.specs.Seeking.{reachOf, foundAt, seekOf}
 use Rattle.track.specs.declared.Point.{Point}
-use Rattle.track.specs.declared.InForce.{InForce}
 use Rattle.track.specs.Track.{number, RisingPoints, isTrack, pointInForce, noneInForce, shown, lookupAnswer}
-use Rattle.track.specs.Working.{unfilled, pointAt, scanOf, heldOf, missingOf, lookFrom}
+use Rattle.track.specs.Working.{unfilled, pointAt, scanOf, heldOf, lookFrom}
 use Rattle.track.proofs.Tracks.{scan-track, is-track, rise-rising, numbers}
 
 is : (b : Bool) → T b → b ≡ true

@@ -3,14 +3,13 @@ use mathlib.Core.Path.{_≡_, refl, sym, _∙_, ap, subst}
 use mathlib.Core.Bool.{Bool, true, false, cond}
 use mathlib.Core.List.{List, [], _∷_, _++_, map}
 use Prim.Native.Nat.{ℕ, zero, suc, _+_, _-_, _<_, _≤_}
-use native.Mathlib.Nat.{zero-add, not-suc-le-zero, le-of-suc-le-suc}
+use native.Mathlib.Nat.{zero-add}
 use native.Mathlib.Omega.{arith}
 use borrow.Author.Tests.{lt-ltb, le-ltb}
 use lib.Dec.{ltb}
-use lib.IntN.{ℤ}
 use lib.ListN.{length, take, drop, getD, replicate}
 use lib.Seq.{length-take-le, getD-take}
-use Rattle.keyed.specs.Keyed.{join, Rising}
+use Rattle.keyed.specs.Keyed.{join}
 use Rattle.keyed.proofs.Mapped.{join-map, rising-to, rising-from, All, join-all}
 use Rattle.plan.specs.Pictures.{pictures}
 use Rattle.plan.specs.Planning.{leftOf, rightOf, Tag, tag, sourceOf, numberOf, tagsFrom, joinTags, RisingTags, noSources}

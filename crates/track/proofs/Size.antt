@@ -3,11 +3,26 @@ use mathlib.Core.Path.{_≡_, refl}
 use mathlib.Core.Bool.{Bool, true, false}
 use Prim.Native.Nat.{ℕ, _<_, _*_, _^_}
 use native.Mathlib.Omega.{arith}
+use prog.Memory.{size}
+use denote.Memory.{lone}
+use Rattle.record.proofs.Record as C
+use Rattle.plan.specs.Limit.{mostPoints}
+use Rattle.track.proofs.Point as P
 use package.mir.Syntax.{Body, skip, seq, assign, block, loop, cond, switch, exit, return, call}
 
--- a point's bytes
+-- a record, a point and a table, in bytes
+abbrev pub recordSize : ℕ
+recordSize = 290
+
 abbrev pub pointSize : ℕ
 pointSize = 296
+
+abbrev pub tableSize : ℕ
+tableSize = 18944
+
+-- as they lie in memory
+pub sizes : (size (lone (C.the-row .mir)) ≡ recordSize) × (size (lone (P.the-row .mir)) ≡ pointSize) × (mostPoints * pointSize ≡ tableSize)
+sizes = (refl, refl, refl)
 
 pub offset-fits : (i n : ℕ) → i < n → n * pointSize < 2 ^ 63 → i * pointSize < 2 ^ 64
 offset-fits i n l r = omega arith

@@ -1,7 +1,7 @@
 -- `scan`, `plan` and `fill` together are the join.
 use mathlib.Core.Path.{_≡_, refl, sym, _∙_, ap, subst}
 use mathlib.Core.Bool.{Bool, true, false, cond}
-use mathlib.Core.List.{List, [], _∷_, _++_, map}
+use mathlib.Core.List.{List, _++_, map}
 use Prim.Native.Nat.{ℕ, _≤_}
 use native.Mathlib.Omega.{arith}
 use borrow.Author.Tests.{eqb-true}
@@ -9,9 +9,9 @@ use lib.Dec.{eqb, leb}
 use lib.IntN.{ℤ}
 use lib.ListN.{length, take, drop}
 use Rattle.plan.specs.declared.Layout.{Layout}
-use Rattle.plan.specs.Planning.{RisingTags, tagsFrom, firstTags, secondTags, joinTags, sourceOf, mergedSources, refusal, layoutOf, noSources, planOf}
+use Rattle.plan.specs.Planning.{RisingTags, tagsFrom, secondTags, joinTags, sourceOf, mergedSources, refusal, layoutOf, noSources, planOf}
 use Rattle.track.specs.declared.Point.{Point}
-use Rattle.track.specs.Track.{number, isTrack, joinOf, joinRefusal, joinedAt, joinAnswer, padded, joinTable}
+use Rattle.track.specs.Track.{number, isTrack, joinOf, joinedAt, joinAnswer, padded, joinTable}
 use Rattle.track.specs.Working.{scanOf, chosenOf, filledTo, answerOf}
 use Rattle.track.proofs.Natural.{rising-tags, named-join, padded-join, sources-length}
 use Rattle.track.proofs.Tracks.{scan-track, is-track, rise-rising, numbers}

@@ -5,21 +5,21 @@ use mathlib.Core.List.{List, [], _∷_, _++_, map}
 use Prim.Native.Nat.{ℕ, zero, suc, _+_, _<_, _≤_}
 use native.Mathlib.Nat.{not-suc-le-zero}
 use native.Mathlib.Omega.{arith}
-use borrow.Author.Tests.{eqb-true, leb-true, eq-eqb, ne-eqb, le-leb}
-use lib.Dec.{T, eqb, leb}
+use borrow.Author.Tests.{eq-eqb, ne-eqb, le-leb}
+use lib.Dec.{T}
 use lib.IntN.{ℤ, pos}
 use lib.Signed.{ltZ}
-use lib.ListN.{length, take, getD, set, replicate, length-set}
+use lib.ListN.{length, take, replicate, length-set}
 use lib.Seq.{take-suc-set, length-take-le}
-use Rattle.record.proofs.Laws.{same-test, and-left, and-right, and-both, tests}
-use Rattle.keyed.specs.Keyed.{Above, Rising}
+use Rattle.record.proofs.Laws.{and-left, and-right, and-both}
+use Rattle.keyed.specs.Keyed.{Above}
 use Rattle.plan.specs.declared.Scanned.{Scanned}
 use Rattle.plan.specs.Limit.{mostPoints}
 use Rattle.plan.specs.Pictures.{Before, pictures, before-transitive}
 use Rattle.plan.specs.Scanning.{sized, extentOf, begun}
 use Rattle.track.specs.declared.Point.{Point}
 use Rattle.track.specs.Track.{number, mayStand, allStand, riseAfter, rise, isTrack, RisingPoints}
-use Rattle.track.specs.Working.{unfilled, pointAt, notedPoint, scannedTo, scanOf}
+use Rattle.track.specs.Working.{pointAt, notedPoint, scannedTo, scanOf}
 use Rattle.track.proofs.Within.{sized-means}
 
 -- ---- the fold, by the list

@@ -1,23 +1,22 @@
 -- `prepare` and `write` together are the placing.
 use mathlib.Core.Path.{_≡_, refl, sym, _∙_, ap, subst}
 use mathlib.Core.Bool.{Bool, true, false, cond}
-use mathlib.Core.List.{List, [], _∷_, _++_}
+use mathlib.Core.List.{List, [], _∷_}
 use Prim.Native.Nat.{ℕ, zero, suc, _<_, _≤_}
 use native.Mathlib.Nat.{not-suc-le-zero, le-of-suc-le-suc}
 use native.Mathlib.Omega.{arith}
 use borrow.Author.Tests.{eqb-true, le-ltb}
 use lib.Dec.{eqb, ltb}
 use lib.IntN.{ℤ}
-use lib.ListN.{length, getD, drop, replicate}
+use lib.ListN.{length, getD, replicate}
 use lib.Seq.{ext-getD}
 use Rattle.record.specs.declared.Record.{Record}
 use Rattle.record.specs.Valid.{valid}
 use Rattle.plan.specs.Limit.{mostPoints}
 use Rattle.track.specs.declared.Point.{Point}
 use Rattle.track.specs.declared.Placing.{Placing}
-use Rattle.track.specs.declared.Placed.{Placed}
 use Rattle.track.specs.Track.{cleared, padded, placeOf, placeRefusal, placeAnswer, placeTable}
-use Rattle.track.specs.Working.{unfilled, setTo, prepared, writeBound, entryOf, writtenTo, placeAnswerOf}
+use Rattle.track.specs.Working.{unfilled, setTo, prepared, writeBound, writtenTo, placeAnswerOf}
 use Rattle.track.proofs.Filled.{set-to-length, set-to-at}
 
 -- ---- the loop's bound

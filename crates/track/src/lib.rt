@@ -12,6 +12,9 @@ ghost use Rattle.plan.specs.Limit.{mostPoints};
 ghost use Rattle.track.specs.Track.{cleared, mayStand, lookupAnswer, joinAnswer, joinTable, placeAnswer, placeTable};
 ghost use Rattle.track.specs.Working.{notedPoint, scanOf, filledTo, answerOf, heldOf, missingOf, prepared, writeBound, entryOf, writtenTo, placeAnswerOf};
 
+// 01, Refusal numbers.
+const NOT_VALID: u8 = 14;
+
 // A picture number, in output order, and the record in force from there on.
 pub struct Point {
     pub picture: i32,
@@ -168,7 +171,7 @@ pub struct Placing {
     pub point: Point,
 }
 
-// 14 for a record that is not valid, then 13; the flag 0 leaves no point.
+// The record is judged before the table; the flag 0 leaves no point.
 fn prepare(shown: Record, picture: i32, length: usize) -> Placing
     ensures { λ r. ⌜ r ≡ prepared shown picture length ⌝ }
 {
@@ -178,14 +181,14 @@ fn prepare(shown: Record, picture: i32, length: usize) -> Placing
     };
     if !record::is_valid(shown) {
         return Placing {
-            result: 14,
+            result: NOT_VALID,
             count: 0,
             point,
         };
     }
     if length != plan::POINTS {
         return Placing {
-            result: 13,
+            result: plan::WRONG_TABLE,
             count: 0,
             point,
         };

@@ -1,14 +1,14 @@
 -- Laws of the wrapper's bytes: compared one by one, and written.
 use Prim.Native.Nat.{ℕ, zero, suc, _+_, _-_, _<_, _≤_}
-use mathlib.Core.Path.{_≡_, refl, ap, sym, _∙_}
-use mathlib.Core.List.{List, [], _∷_, _++_, append-nil, append-assoc}
+use mathlib.Core.Path.{_≡_, refl, ap, sym, subst, _∙_}
+use mathlib.Core.List.{List, [], _∷_, _++_, append-nil}
 use mathlib.Core.Bool.{Bool, true, false}
 use native.Mathlib.Omega.{arith}
 use native.Mathlib.Numerals.{add-one}
-use borrow.Author.Tests.{eq-eqb, ne-eqb}
+use borrow.Author.Tests.{eq-eqb, ne-eqb, eqb-true}
 use lib.Dec.{eqb}
 use lib.ListN.{length, getD, take, drop, set, drop-of-length-le, length-append, length-drop}
-use lib.Seq.{drop-cons, drop-drop, take-all}
+use lib.Seq.{drop-cons, drop-drop, drop-at, take-all}
 use borrow.Rule.Slice.PartMut.{putMid}
 use Rattle.bits.specs.declared.Refusal.{Refusal}
 use Rattle.bits.specs.Reading.{Out, ok, no, pastEnd}
@@ -39,16 +39,40 @@ module _ (s : List ℕ) (i : ℕ) (h : i < 8) where
       ∙ same (getD s i 0) (getD wrapperBytes i 0) (drop (suc i) wrapperBytes) (drop (suc i) s) e
       ∙ ap (λ (j : ℕ). behind (drop j wrapperBytes) (drop j s)) (sym (add-one i))
 
--- what lies behind the wrapper is the input from its ninth byte on
-pub behind-is : (ws s t : List ℕ) (n : ℕ) → behind ws s ≡ ok t n → (t ≡ drop (length ws) s) × (length ws ≤ length s)
+-- the wrapper's bytes are there, and what lies behind them is the input from its ninth byte on
+pub behind-starts : (ws s t : List ℕ) (n : ℕ) → behind ws s ≡ ok t n → s ≡ ws ++ t
 unfolding behind
-behind-is [] s t n e = let x : s ≡ t = cc in (sym x, omega arith)
-behind-is (w ∷ ws) [] t n e = no-not-ok e
-behind-is (w ∷ ws) (b ∷ s) t n e = go (behind-is ws s t n) (eqb b w) refl
+behind-starts [] s t n e = let x : s ≡ t = cc in x
+behind-starts (w ∷ ws) [] t n e = no-not-ok e
+behind-starts (w ∷ ws) (b ∷ s) t n e = go (behind-starts ws s t n) (eqb b w) refl
   where
-    go : (behind ws s ≡ ok t n → (t ≡ drop (length ws) s) × (length ws ≤ length s)) → (c : Bool) → eqb b w ≡ c → (t ≡ drop (length ws) s) × (suc (length ws) ≤ suc (length s))
-    go further true q = let f = further (rw q at e) in (f .0, omega (arith, f .1))
+    go : (behind ws s ≡ ok t n → s ≡ ws ++ t) → (c : Bool) → eqb b w ≡ c → b ∷ s ≡ w ∷ (ws ++ t)
+    go further true q = let f = further (rw q at e) in let x = eqb-true b w q in cc
     go further false q = no-not-ok (rw q at e)
+
+pub behind-is : (ws s t : List ℕ) (n : ℕ) → behind ws s ≡ ok t n → (t ≡ drop (length ws) s) × (length ws ≤ length s)
+behind-is ws s t n e =
+    let q = behind-starts ws s t n e in
+    (sym (ap (drop (length ws)) q ∙ drop-at ws t (length ws) refl), omega (arith, ap length q, length-append ws t))
+
+pub behind-takes : (ws t : List ℕ) → behind ws (ws ++ t) ≡ ok t 0
+unfolding behind
+behind-takes [] t = refl
+behind-takes (w ∷ ws) t = rw (eq-eqb w w refl) (behind-takes ws t)
+
+-- the comparison refuses only with 1 and 3
+pub behind-refuses : (P : Refusal → Type 0) → P pastEnd → P wrapperDiffers → (ws s : List ℕ) (r : Refusal) → behind ws s ≡ no r → P r
+unfolding behind
+behind-refuses P short other [] s r e = no-not-ok (sym e)
+behind-refuses P short other (w ∷ ws) [] r e = let x : pastEnd ≡ r = cc in subst P x short
+behind-refuses P short other (w ∷ ws) (b ∷ s) r e = go (behind-refuses P short other ws s r) (eqb b w) refl
+  where
+    go : (behind ws s ≡ no r → P r) → (c : Bool) → eqb b w ≡ c → P r
+    go further true q = further (rw q at e)
+    go further false q =
+        let f : _≡_ {A = Out (List ℕ)} (no wrapperDiffers) (no r) = rw q at e in
+        let x : wrapperDiffers ≡ r = cc in
+        subst P x other
 
 pub is-there : (o : Out (List ℕ)) → There ≡ wrapperOf o → (t : List ℕ) × (n : ℕ) × (o ≡ ok t n)
 is-there (ok t n) e = (t, n, refl)

@@ -1,6 +1,6 @@
 -- The three answers of a write, and that the bits of a payload are 8 for each of its bytes.
-use Prim.Native.Nat.{ℕ, zero, suc, _*_, _/_, _%_, _<_, _≤_}
-use mathlib.Core.Path.{_≡_, refl, ap, sym, _∙_}
+use Prim.Native.Nat.{ℕ, suc, _*_, _<_, _≤_}
+use mathlib.Core.Path.{_≡_, refl}
 use mathlib.Core.List.{List, [], _∷_, _++_}
 use mathlib.Core.Bool.{Bool, true, false, cond}
 use native.Mathlib.Omega.{arith}
@@ -8,7 +8,7 @@ use borrow.Author.Tests.{le-leb, lt-leb, leb-true}
 use lib.ListN.{length, drop, getD}
 use Rattle.bits.specs.Bits.{Bytes}
 use Rattle.record.specs.declared.Record.{Record}
-use Rattle.syntax.specs.Element.{allBits, elements, payload, bitsOfData}
+use Rattle.syntax.specs.Element.{elements, payload, bitsOfData}
 use Rattle.syntax.proofs.Rows.{length-all}
 use Rattle.syntax.proofs.Exact.{whole}
 use Rattle.syntax.proofs.Largest.{payload-length}

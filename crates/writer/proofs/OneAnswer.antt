@@ -1,5 +1,5 @@
 -- Each public contract admits one answer, the buffer at exit included: said of the contract itself, as the check reads it.
-use mathlib.Core.Path.{_≡_, sym, _∙_}
+use mathlib.Core.Path.{sym, _∙_}
 use denote.Ref.{now}
 use Rattle.bits.proofs.OneAnswer.{OneResult, OneResultAndBuffer}
 use Rattle.writer.proofs.bytes_needed.Kinds as bytes-needed

@@ -1,28 +1,29 @@
 -- Laws of the parts of a payload as the writer puts them: their lengths, and how they join.
-use Prim.Native.Nat.{ℕ, zero, suc, _+_, _-_, _*_, _/_, _%_, _^_, _<_, _≤_}
+use Prim.Native.Nat.{ℕ, _+_, _-_, _*_, _/_, _%_, _<_, _≤_}
 use mathlib.Core.Path.{_≡_, refl, ap, sym, _∙_}
 use mathlib.Core.List.{List, [], _∷_, _++_, append-assoc, append-nil}
-use mathlib.Core.Bool.{Bool, true, false, cond, _&&_}
+use mathlib.Core.Bool.{Bool, true, false, cond}
 use native.Mathlib.Omega.{arith}
 use borrow.Author.Tests.{ltb-true}
-use lib.Dec.{eqb, ltb}
+use lib.Dec.{ltb}
 use lib.IntN.{ℤ, pos, negsuc}
-use lib.ListN.{length, take, drop, getD, replicate, length-append, length-replicate, length-take, length-drop, take-append-drop}
+use lib.ListN.{length, take, drop, replicate, length-append, length-take, take-append-drop}
 use lib.Signed.{mag}
 use Rattle.bits.specs.Bits.{bit, code, bitsOf, pack, Bytes}
 use Rattle.bits.specs.Codes.{halvings, ueCode}
-use Rattle.bits.specs.Coding.{Coding, unsigned, signed, holds, holdAll, fieldsCode, totalWidth}
+use Rattle.bits.specs.Coding.{signed, holds, holdAll, fieldsCode, totalWidth}
 use Rattle.bits.specs.Reading.{toBoundary}
-use Rattle.bits.proofs.Bits.{length-code, pack-bits, length-bits}
+use Rattle.bits.proofs.Lists.{bytes-take}
+use Rattle.bits.proofs.Bits.{length-code, pack-bits}
 use Rattle.pen.specs.declared.Pen.{Pen}
-use Rattle.pen.specs.Writing.{written, startPen, Room, Wrote}
-use Rattle.pen.proofs.Writing.{wrote-then, bytes-take}
+use Rattle.pen.specs.Writing.{startPen, Room, Wrote}
+use Rattle.pen.proofs.Writing.{wrote-then}
 use Rattle.record.specs.declared.Block.{Block}
 use Rattle.record.specs.declared.Block.the-variants.{Nothing, Level1, Level2, Level5}
-use Rattle.record.specs.Level.{level, codings, padding, levelOf, valuesOf}
+use Rattle.record.specs.Level.{level, codings, padding, levelOf}
 use Rattle.record.specs.Valid.{inRange}
 use Rattle.record.proofs.Laws.{and-left, and-right}
-use Rattle.syntax.specs.Element.{Element, allBits, sumOfWidths, toByte, fieldElements, blockElements, headElements, openElements}
+use Rattle.syntax.specs.Element.{Element, allBits, sumOfWidths, toByte, fieldElements, blockElements, headElements}
 use Rattle.syntax.proofs.Rows.{length-all}
 use Rattle.syntax.proofs.Head.{head-bits, bits-to-byte}
 use Rattle.syntax.proofs.Largest.{widths-to-byte}

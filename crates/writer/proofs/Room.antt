@@ -1,11 +1,11 @@
 -- Laws of the room that a payload needs: the widths of its parts.
-use Prim.Native.Nat.{ℕ, zero, suc, _+_, _-_, _*_, _/_, _%_, _<_, _≤_}
+use Prim.Native.Nat.{ℕ, zero, suc, _+_, _-_, _*_, _/_, _<_, _≤_}
 use mathlib.Core.Path.{_≡_, refl, ap, sym, _∙_}
 use mathlib.Core.List.{List, [], _∷_, _++_, append-assoc, append-nil}
 use mathlib.Core.Bool.{Bool, true, false, cond}
 use native.Mathlib.Omega.{arith}
 use lib.Dec.{eqb}
-use lib.ListN.{length, take, getD, replicate, List·getD-map}
+use lib.ListN.{length, take, getD, List·getD-map}
 use lib.Seq.{getD-take}
 use Rattle.bits.specs.Coding.{totalWidth}
 use Rattle.bits.specs.Codes.{halvings, zerosOf}
@@ -19,7 +19,7 @@ use Rattle.record.specs.Valid.{mostBlocks, nowhere, blockIn, allBlocks, blocks,
 use Rattle.record.proofs.Laws.{blockAt, take-more, and-left, and-right}
 use Rattle.record.proofs.Clauses.{valid-means}
 use Rattle.record.proofs.Made.{length-blocks}
-use Rattle.syntax.specs.Element.{Element, sumOfWidths, fieldElements, toByte, headElements, openElements, blockElements, blocksElements, elements, payload, bitsOfData}
+use Rattle.syntax.specs.Element.{Element, sumOfWidths, fieldElements, headElements, openElements, blockElements, blocksElements, elements, payload}
 use Rattle.syntax.proofs.Largest.{widths-append, widths-to-byte, payload-length}
 
 -- a level's length and the zeros of its code

@@ -1,10 +1,10 @@
 -- `bits::gather` meets its contract: after k bits, v is the number that they are.
 use Prim.Native.Nat.{_≤_, _<_, _-_, _+_}
-use mathlib.Core.Path.{_≡_, refl, ap, _∙_}
+use mathlib.Core.Path.{_≡_, refl}
 use mathlib.Core.Bool.{false}
 use native.Mathlib.Omega.{arith}
 use lib.ListN.{length, take, drop, getD}
-use Rattle.bits.specs.Bits.{bitsOf, value, valueFrom, bit}
+use Rattle.bits.specs.Bits.{bitsOf, value, valueFrom}
 use Rattle.bits.proofs.Bits.{length-rest, value-take-lt, bit-lt}
 use Rattle.bits.proofs.Reading.{value-bit}
 use Rattle.bits.proofs.gather.Statement.{statement}

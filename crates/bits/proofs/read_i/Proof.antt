@@ -1,7 +1,6 @@
 -- `bits::read_i` meets its contract: u(n), and its number in two's complement.
 use borrow.Author.Needs.{needs}
-use Prim.Native.Nat.{_<_, _^_}
-use mathlib.Core.Path.{_≡_, _∙_, ap}
+use mathlib.Core.Path.{_∙_, ap}
 use lib.ListN.{drop}
 use lib.IntN.{ℤ}
 use mir.ValLaws.{toZ-ofZ}

@@ -1,6 +1,6 @@
 -- `bits::read_zeros` meets its contract: behind k zero bits, the answer for the others is the answer for all.
-use Prim.Native.Nat.{suc, _≤_, _<_, _-_, _+_}
-use mathlib.Core.Path.{_≡_, _∙_, sym, ap, refl}
+use Prim.Native.Nat.{suc, _≤_, _-_, _+_}
+use mathlib.Core.Path.{_≡_, _∙_, sym, ap}
 use native.Mathlib.Omega.{arith}
 use native.Mathlib.Nat.{add-zero}
 use mathlib.Core.Bool.{false}

@@ -1,7 +1,7 @@
 -- `bits::to_signed` meets its contract: the upper half of the numbers of n bits is 2 ^ n less.
 use borrow.Author.Needs.{needs}
-use Prim.Native.Nat.{_^_, _-_, _*_, _<_, _≤_}
-use mathlib.Core.Path.{_≡_, _∙_, sym}
+use Prim.Native.Nat.{_^_, _-_, _<_, _≤_}
+use mathlib.Core.Path.{_∙_, sym}
 use native.Mathlib.Omega.{arith}
 use lib.Pow.{pow-mono}
 use mir.ValLaws.{toZ-pos}

@@ -1,6 +1,6 @@
 -- `bits::u_behind` meets its contract: the field's last byte is in the slice exactly if its last bit is.
-use Prim.Native.Nat.{_+_, _<_, _≤_}
-use mathlib.Core.Path.{_≡_, _∙_, sym, ap}
+use Prim.Native.Nat.{_+_, _≤_}
+use mathlib.Core.Path.{_≡_, sym, ap}
 use native.Mathlib.Omega.{arith}
 use lib.ListN.{length, drop}
 use Rattle.bits.specs.Bits.{bitsOf, valueFrom}

@@ -1,6 +1,9 @@
 -- `flat::eight_of` meets its contract, level by level.
 use borrow.Author.Needs.{needs}
-use Rattle.flat.proofs.Numbers.{wide, signed-wide}
+use native.Mathlib.Omega.{arith}
+use mir.Syntax.{w16, w32}
+use Rattle.bits.proofs.Casts.{wider}
+use Rattle.flat.proofs.Numbers.{wide}
 use Rattle.flat.proofs.eight_of.Statement.{statement}
 use Rattle.flat.proofs.eight_of.Tie as tie
 
@@ -41,7 +44,7 @@ cast-t25 : tie.Need-cast-t25
 cast-t25 c = search needs
 
 cast-t26 : tie.Need-cast-t26
-cast-t26 c = signed-wide (c .before .block2 .given .0 .1 .1 .1 .1 .1 .1 .0) (record { sfits = c .known-told2 .given .1 .1 .1 .1 .1 .1 .0 .1 }) .0
+cast-t26 c = wider w16 w32 (c .before .block2 .given .0 .1 .1 .1 .1 .1 .1 .0) (record { sfits = c .known-told2 .given .1 .1 .1 .1 .1 .1 .0 .1 }) (omega arith) .0
 
 enum-known-block-3 : tie.Need-enum-known-block-3
 enum-known-block-3 c = search needs
@@ -71,7 +74,7 @@ returns-3 : tie.Need-returns-3
 returns-3 c =
     let x = c .before .block2 .given in
     let k = c .known-told2 .given in
-    let weight = signed-wide (x .0 .1 .1 .1 .1 .1 .1 .0) (record { sfits = k .1 .1 .1 .1 .1 .1 .0 .1 }) in
+    let weight = wider w16 w32 (x .0 .1 .1 .1 .1 .1 .1 .0) (record { sfits = k .1 .1 .1 .1 .1 .1 .0 .1 }) (omega arith) in
     rw (
       x .1,
       wide (x .0 .0) (k .0 .1),

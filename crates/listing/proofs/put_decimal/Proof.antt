@@ -4,7 +4,7 @@ use mathlib.Core.Path.{_≡_, ap, _∙_}
 use mathlib.Core.List.{List}
 use native.Mathlib.Omega.{arith}
 use borrow.Author.Needs.{needs}
-use lib.ListN.{length, take, drop, set, length-set}
+use lib.ListN.{length, take, drop, set}
 use lib.Seq.{take-length, drop-length, sets, length-sets}
 use Rattle.listing.specs.Text.{size, digits, decimal}
 use Rattle.listing.proofs.Typing.{typed-sets, set-before}

@@ -4,7 +4,7 @@ use mathlib.Core.Path.{_≡_, sym, _∙_}
 use mathlib.Core.Bool.{true}
 use native.Mathlib.Omega.{arith}
 use borrow.Author.Needs.{needs}
-use lib.ListN.{length, take}
+use lib.ListN.{length}
 use Rattle.writer.proofs.Answers.{done, short, bad}
 use Rattle.listing.specs.Listing.{listing, listable}
 use Rattle.listing.proofs.Typing.{typed-whole}

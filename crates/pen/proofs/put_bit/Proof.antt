@@ -1,8 +1,6 @@
 -- `pen::put_bit` meets its contract: the bit waits, or the eight are written.
-use Prim.Native.Nat.{_≤_, _+_, _<_, _*_}
 use native.Mathlib.Omega.{arith}
 use borrow.Author.Needs.{needs}
-use lib.ListN.{length}
 use Rattle.pen.proofs.Writing.{held-bit, stored-bit, small}
 use Rattle.pen.proofs.put_bit.Statement.{statement}
 use Rattle.pen.proofs.put_bit.Tie as tie

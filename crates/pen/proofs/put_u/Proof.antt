@@ -1,5 +1,5 @@
 -- `pen::put_u` meets its contract: k bits are written, which are v without its last n - k bits.
-use Prim.Native.Nat.{_≤_, _-_, _+_, _<_, _/_, _^_}
+use Prim.Native.Nat.{_≤_, _-_, _/_, _^_}
 use native.Mathlib.Omega.{arith}
 use Rattle.bits.specs.Bits.{code}
 use Rattle.pen.specs.Writing.{Wrote}

@@ -1,13 +1,9 @@
 -- `pen::put_ue` meets its contract: the zeros of v's code, and v + 1 in one bit more.
 use borrow.Author.Needs.{needs}
-use Prim.Native.Nat.{_+_, _*_, _≤_, _<_}
-use mathlib.Core.Path.{_≡_, _∙_, ap}
+use Prim.Native.Nat.{_+_}
 use mathlib.Core.Bool.{false}
 use native.Mathlib.Omega.{arith}
-use lib.ListN.{length, replicate, length-replicate}
-use Rattle.bits.specs.Bits.{code}
-use Rattle.bits.specs.Codes.{zerosOf, ueCode}
-use Rattle.pen.specs.Writing.{Wrote}
+use lib.ListN.{length-replicate}
 use Rattle.bits.proofs.Elements.{length-ue, zeros-few}
 use Rattle.pen.proofs.Writing.{wrote-then, room-left, ue-whole}
 use Rattle.pen.proofs.put_ue.Statement.{statement}

@@ -1,8 +1,9 @@
 -- `pen::to_unsigned` meets its contract: a negative number is 2 ^ n more.
+use native.Mathlib.Omega.{arith}
 use borrow.Author.Needs.{needs}
-use mir.Val.{SFits}
-use Rattle.bits.proofs.Signed.{power-fits, unsigned-low, wide-fits, sum-fits, unsigned-fits, unsigned-is}
-use mir.Syntax.{w32}
+use Rattle.bits.proofs.Casts.{wider}
+use Rattle.bits.proofs.Signed.{power-fits, unsigned-low, sum-fits, unsigned-fits, unsigned-is}
+use mir.Syntax.{w32, w64}
 use Rattle.pen.proofs.to_unsigned.Statement.{statement}
 use Rattle.pen.proofs.to_unsigned.Tie as tie
 
@@ -16,7 +17,7 @@ cast-result-2 : tie.Need-cast-result-2
 cast-result-2 c = power-fits (c .before .args .n) (c .before .pre .1)
 
 cast-result-3 : tie.Need-cast-result-3
-cast-result-3 c = let s = c .before in wide-fits (s .args .n) (s .args .v) (s .fits .v) (s .pre .0) (s .pre .1) (s .pre .2) (c .if1 .left)
+cast-result-3 c = let s = c .before in wider w32 w64 (s .args .v) (s .fits .v) (omega arith) .0
 
 add-result : tie.Need-add-result
 add-result c = let s = c .before in sum-fits (s .args .n) (s .args .v) (s .fits .v) (s .pre .0) (s .pre .1) (s .pre .2) (c .if1 .left)

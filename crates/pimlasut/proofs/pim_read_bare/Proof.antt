@@ -1,12 +1,11 @@
 -- `pimlasut::pim_read_bare` meets its contract.
-use mathlib.Core.Path.{refl, ap, _∙_}
-use borrow.Author.Tests.{ne-eqb, eq-eqb}
+use mathlib.Core.Path.{refl}
+use borrow.Author.Tests.{ne-eqb}
 use lib.ListN.{length}
-use Rattle.reader.specs.declared.Reading.{Reading}
 use Rattle.promises.specs.Functions.{readBare}
-use Rattle.flat.specs.Flat.{flat, flatLength}
-use Rattle.pimlasut.specs.Boundary.{isRecord, after}
-use Rattle.pimlasut.proofs.Laws.{wrong, right}
+use Rattle.flat.specs.Flat.{flatLength}
+use Rattle.pimlasut.specs.Boundary.{isRecord}
+use Rattle.pimlasut.proofs.Laws.{wrong, given-reading}
 use borrow.Author.Needs.{needs}
 use Rattle.pimlasut.proofs.pim_read_bare.Statement.{statement}
 use Rattle.pimlasut.proofs.pim_read_bare.Tie as tie
@@ -27,15 +26,10 @@ same-length c = search needs
 
 returns-2 : tie.Need-returns-2
 returns-2 c =
-    let a = c .before .before .before .before .before .before .before .args in
-    let give = c .before .give-reading in
-    let e = c .before .before .before .before .read-data .ensures in (
-      give .ensures .0 ∙ ap (λ (q : Reading). q .result) e ∙ right (isRecord (a .numbers .now)) (readBare (a .input .now) .result) (eq-eqb (length (a .numbers .now)) flatLength (c .before .before .before .before .before .if1 .left)),
-      (
-        give .ensures .1 .0 ∙ ap (λ (q : Reading). after (give .result) (flat (q .«record»)) (a .numbers .now)) e,
-        give .ensures .1 .1 ∙ ap (λ (q : Reading). after (give .result) (q .bits) (a .bits .now)) e,
-      ),
-    )
+    let given = c .before .give-reading .ensures in
+    let read = c .before .before .before .before in
+    let a = read .before .before .before .args in
+    given-reading (a .numbers .now) (a .bits .now) (read .before .if1 .left) (read .read-data .ensures) (given .0) (given .1 .0) (given .1 .1)
 
 pub pim-read-bare-spec : {M : Type 1} → statement M
 pim-read-bare-spec =

@@ -1,6 +1,6 @@
 -- `plan::choose` meets its contract.
-use mathlib.Core.Path.{_≡_, _∙_, ap}
-use mathlib.Core.Bool.{Bool, true, false}
+use mathlib.Core.Path.{_∙_, ap}
+use mathlib.Core.Bool.{true, false}
 use Prim.Native.Nat.{_+_}
 use borrow.Author.Needs.{needs}
 use Rattle.plan.specs.Limit.{mostPoints}

@@ -1,6 +1,5 @@
 -- `plan::merge` meets its contract.
 use mathlib.Core.Path.{_≡_, refl, sym, _∙_, ap, subst}
-use mathlib.Core.List.{List, map}
 use Prim.Native.Nat.{ℕ, _≤_, _<_, _+_, _-_}
 use native.Mathlib.Nat.{eq-or-lt-of-le}
 use mathlib.Core.Logic.{⊎-elim}
@@ -11,11 +10,10 @@ use mir.Syntax.{w32}
 use mir.Val.{SFits, toZ, ofZ}
 use mir.ValLaws.{toZ-ofZ}
 use borrow.Author.Needs.{needs}
-use lib.ListN.{length, take, getD, length-map}
+use lib.ListN.{length, take, getD}
 use lib.Seq.{length-take-le}
 use Rattle.plan.specs.declared.Turn.{Turn}
-use Rattle.plan.specs.declared.Layout.{Layout}
-use Rattle.plan.specs.Planning.{Tag, tag, sourceOf, firstTags, secondTags, joinTags, mergedSources, nextOf, turnOf, clamped}
+use Rattle.plan.specs.Planning.{tag, firstTags, secondTags, mergedSources, nextOf, turnOf, clamped}
 use Rattle.plan.proofs.Merging.{Merging, Comes, begins, turns, too-long, ends, comes-at, tags-length}
 use Rattle.plan.proofs.merge.Statement.{statement}
 use Rattle.plan.proofs.merge.Tie as tie

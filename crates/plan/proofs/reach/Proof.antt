@@ -1,13 +1,12 @@
 -- `plan::reach` meets its contract.
-use mathlib.Core.Path.{_≡_, refl, sym, _∙_, ap, subst}
+use mathlib.Core.Path.{_≡_, sym, _∙_, ap, subst}
 use mathlib.Core.Bool.{Bool, true, false}
-use mathlib.Core.List.{List}
-use Prim.Native.Nat.{ℕ, _≤_, _<_, _+_, _-_}
+use Prim.Native.Nat.{_≤_, _+_, _-_}
 use native.Mathlib.Nat.{zero-add, le-antisymm}
 use native.Mathlib.Omega.{arith}
 use borrow.Author.Needs.{needs}
 use mir.Syntax.{w32}
-use mir.Val.{SFits, toZ, ofZ}
+use mir.Val.{toZ, ofZ}
 use mir.ValLaws.{toZ-ofZ}
 use lib.IntN.{ℤ, pos}
 use lib.Signed.{ltZ}
@@ -38,9 +37,6 @@ tested c b e =
     let a = c .before .before .before in
     let q = getD (a .args .t1) (c .before .before .loop .i) (pos 0) in
     ap (λ (z : ℤ). ltZ z q) (sym (number a)) ∙ ap (ltZ (toZ w32 (ofZ w32 (a .args .picture)))) (sym (toZ-ofZ w32 q (record { sfits = c .k .given }))) ∙ e
-
-kept : (c : tie.Start Inv-loop μ-loop) (i : ℕ) (Q : ℤ → Type 0) → Q (toZ w32 (ofZ w32 (c .args .picture))) → Q (c .args .picture)
-kept c i Q h = subst Q (number c) h
 
 loop-holds : tie.Need-loop-holds Inv-loop μ-loop
 loop-holds c = (search needs, sym (zero-add _))

@@ -1,5 +1,5 @@
 -- `plan::right` meets its contract.
-use mathlib.Core.Path.{_≡_, sym, _∙_, ap}
+use mathlib.Core.Path.{sym, _∙_, ap}
 use mathlib.Core.Bool.{Bool, cond}
 use Prim.Native.Nat.{_-_}
 use native.Mathlib.Omega.{arith}

@@ -1,9 +1,7 @@
 -- `shader::converted` meets its contract: each number by itself.
-use borrow.Author.Needs.{needs}
 use mathlib.Core.Path.{_≡_, refl, ap, _∙_}
-use native.Mathlib.Omega.{arith}
 use mir.Syntax.{w16}
-use mir.Val.{toZ, ofZ, SFits}
+use mir.Val.{toZ, ofZ}
 use mir.ValLaws.{toZ-ofZ}
 use Rattle.shader.specs.Shader.{singleBits}
 use Rattle.shader.proofs.Ranges.{Codes, codes}

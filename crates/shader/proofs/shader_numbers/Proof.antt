@@ -1,11 +1,8 @@
 -- `shader::shader_numbers` meets its contract, level by level.
 use borrow.Author.Needs.{needs}
 use mathlib.Core.Path.{_≡_, sym, _∙_}
-use mathlib.Core.Bool.{true, false}
-use lib.IntN.{ℤ}
 use mir.Syntax.{w16}
 use mir.Val.{toZ, ofZ}
-use Rattle.record.specs.Valid.{inRange}
 use Rattle.shader.proofs.shader_numbers.Statement.{statement}
 use Rattle.shader.proofs.shader_numbers.Tie as tie
 

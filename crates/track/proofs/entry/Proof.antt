@@ -1,5 +1,4 @@
 -- `track::entry` meets its contract.
-use mathlib.Core.Path.{_∙_, sym}
 use borrow.Author.Needs.{needs}
 use borrow.Author.Tests.{lt-ltb, le-ltb}
 use Rattle.track.proofs.entry.Statement.{statement}

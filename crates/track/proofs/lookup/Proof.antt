@@ -1,8 +1,7 @@
 -- `track::lookup` meets its contract: a walk of its MIR, by hand: calls, and a branch, in one arm of which an element is read.
 use mathlib.Core.Path.{_≡_, refl, sym, _∙_, ap, subst}
 use mathlib.Core.Bool.{Bool, true, false, not, cond}
-use Prim.Native.Nat.{ℕ, _<_, _≤_, _^_, _*_, _+_}
-use native.Mathlib.Omega.{arith}
+use Prim.Native.Nat.{ℕ, _<_, _≤_, _^_, _*_}
 use mathlib.Core.List.{List, [], _∷_}
 use lib.Dec.{T}
 use lib.IntN.{ℤ}
@@ -14,14 +13,14 @@ use package.mir.Syntax.{Ty, named, imm, w32, w64, tyInt, tyBool, tyPtr, tyRef}
 use package.mir.Val.{Val, vint, vbool, vptr, ofZ}
 use package.mir.Facts.{fits-ofZ}
 use base.Logic.{SProp, ent, sep, emp, via, fst∗, snd∗, exE, id⊢}
-use base.Fml.{Lft, GName, Share, Fml, ftrue, fat, flft, froom, fdies, fres, fshr-bor}
+use base.Fml.{Lft, GName, Share, Fml, ftrue, fat, flft, froom, fdies}
 use prog.Memory.{Memory}
 use prog.Routine.{Routine}
-use prog.Wp.{Heap, Env, Out, Calls, Loops, Wp, WpFn, Tables, afterSeq, atReturn}
+use prog.Wp.{Heap, Env, WpFn, Tables}
 use ghost.Atoms.{Atoms, sem}
 use contract.Monad.{Fun, fact}
 use contract.Running.{givenOf, tables, tablesOf}
-use types.Kit.{Given, Item, Sq, runs, anyQ, atRet, ‵, raw, some, later, _⊛_, ⋆, _$_, _∵_, !, qed, by, move, keep, drop, use0, use1, use2, split, join, pick, rewrite, fsplit, fjoin, suffices, frame, await, done}
+use types.Kit.{Given, Item, Sq, runs, atRet, ‵, raw, some, later, _⊛_, ⋆, _$_, _∵_, !, qed, by, move, keep, drop, use0, use1, use2, split, join, pick, rewrite, fsplit, fjoin, suffices, frame, await, done}
 use types.Part.{whole, sub, look-in}
 use types.Run.{look, look-raw, init, forget, stop, hop, fld, from, load, lit, of-opd, and-then, no-more, bin, assigns, land, first, skips, branches, returns, returns-within, enter, alloc1, alloc0, params1, pass1, pass0, free1, free0, exec}
 use sound.WpLaws.{FmC, fmOf, WpFn-mono}
@@ -45,7 +44,7 @@ use denote.Triple.Spec.{Meets, tripleOf}
 use denote.Triple.Table.{entered, cited}
 use denote.Triple.Walked.{says, Stays, stay-none-slice, stay-none, walkOf, Walks, ends-at, walked, goes-none-slice, goes-none, walk-meets}
 use denote.Exit.{yes}
-use Rattle.track.specs.Working.{unfilled, scanOf, heldOf, missingOf, lookFrom}
+use Rattle.track.specs.Working.{unfilled, scanOf, heldOf, missingOf}
 use Rattle.track.specs.declared.Point.{Point}
 use Rattle.track.specs.declared.InForce.{InForce}
 use Rattle.track.proofs.Point as P

@@ -1,6 +1,5 @@
 -- `track::note_point` meets its contract.
 use mathlib.Core.Path.{_∙_, ap}
-use mathlib.Core.Bool.{Bool}
 use lib.IntN.{ℤ}
 use mir.Syntax.{w32}
 use mir.Val.{toZ, ofZ}

@@ -1,5 +1,5 @@
 -- `track::place` meets its contract: a walk of its MIR, by hand: three calls in a row, with no branch and no loop.
-use mathlib.Core.Path.{_≡_, refl, sym, _∙_, ap, subst}
+use mathlib.Core.Path.{_≡_, refl, _∙_, subst}
 use Prim.Native.Nat.{ℕ, _<_, _^_}
 use mathlib.Core.List.{List, [], _∷_}
 use lib.IntN.{ℤ}

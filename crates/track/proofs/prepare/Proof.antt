@@ -10,7 +10,6 @@ use mir.ValLaws.{toZ-ofZ}
 use borrow.Author.Needs.{needs}
 use borrow.Author.Tests.{eq-eqb, ne-eqb}
 use Rattle.record.specs.declared.Record.{Record}
-use Rattle.record.specs.Valid.{valid}
 use Rattle.plan.specs.Limit.{mostPoints}
 use Rattle.track.specs.declared.Placing.{Placing}
 use Rattle.track.proofs.prepare.Statement.{statement}

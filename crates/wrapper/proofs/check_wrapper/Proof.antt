@@ -1,8 +1,8 @@
 -- `wrapper::check_wrapper` meets its contract: the answer from byte i on is the answer from the start.
-use Prim.Native.Nat.{_≤_, _<_, _-_, _+_}
+use Prim.Native.Nat.{_≤_, _-_}
 use mathlib.Core.Path.{_≡_, refl, sym, ap, _∙_}
 use native.Mathlib.Omega.{arith}
-use lib.ListN.{length, drop, getD}
+use lib.ListN.{drop}
 use Rattle.wrapper.specs.Wrapper.{wrapperBytes, behind, wrapperOf}
 use Rattle.wrapper.proofs.Laws.{missing, differs, agrees}
 use Rattle.wrapper.proofs.check_wrapper.Statement.{statement}

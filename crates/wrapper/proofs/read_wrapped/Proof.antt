@@ -1,14 +1,13 @@
 -- `wrapper::read_wrapped` meets its contract: the wrapper is judged, and the data handed on from the ninth byte.
 use borrow.Author.Needs.{needs}
 use Prim.Native.Nat.{ℕ, _-_, _≤_}
-use mathlib.Core.Path.{_≡_, sym, ap, _∙_}
+use mathlib.Core.Path.{_≡_, sym, _∙_}
 use mathlib.Core.List.{List}
 use native.Mathlib.Omega.{arith}
 use lib.ListN.{length, take, drop, length-drop}
 use lib.Seq.{take-all}
 use Rattle.bits.specs.Reading.{ok, no}
-use Rattle.reader.specs.Reading.{readingOf}
-use Rattle.wrapper.specs.Wrapper.{wrapperBytes, behind, wrappedData}
+use Rattle.wrapper.specs.Wrapper.{wrapperBytes, behind}
 use Rattle.wrapper.proofs.Laws.{is-there, is-refused, behind-is}
 use Rattle.wrapper.proofs.read_wrapped.Statement.{statement}
 use Rattle.wrapper.proofs.read_wrapped.Tie as tie

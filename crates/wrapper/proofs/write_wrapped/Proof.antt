@@ -1,17 +1,16 @@
 -- `wrapper::write_wrapped` meets its contract: the record is judged, then the room, and only then a byte is written.
-use Prim.Native.Nat.{ℕ, _+_, _-_, _≤_, _<_}
-use mathlib.Core.Path.{_≡_, refl, sym, ap, _∙_}
-use mathlib.Core.List.{List, _++_}
-use mathlib.Core.Bool.{true, false}
+use Prim.Native.Nat.{_+_, _-_, _≤_}
+use mathlib.Core.Path.{_≡_, sym, ap, _∙_}
+use mathlib.Core.Bool.{true}
 use native.Mathlib.Omega.{arith}
-use lib.ListN.{length, take, drop, length-drop}
+use lib.ListN.{length, drop, length-drop}
 use Rattle.record.specs.Valid.{valid}
 use Rattle.record.proofs.Clauses.{valid-means}
 use Rattle.syntax.specs.Element.{payload}
 use Rattle.writer.specs.Writing.{bufferAs}
 use Rattle.writer.proofs.Answers.{done, short, bad}
 use Rattle.wrapper.proofs.Laws.{joined, part-is}
-use Rattle.wrapper.specs.Wrapper.{wrapperBytes, wrappedPayload}
+use Rattle.wrapper.specs.Wrapper.{wrappedPayload}
 use borrow.Author.Needs.{needs}
 use Rattle.wrapper.proofs.write_wrapped.Statement.{statement}
 use Rattle.wrapper.proofs.write_wrapped.Tie as tie

@@ -1,10 +1,9 @@
 -- `writer::blocks_bits` meets its contract: the sum so far is that of the first j blocks.
-use Prim.Native.Nat.{_-_, _+_, _*_, _<_, _≤_}
+use Prim.Native.Nat.{_-_, _*_, _<_, _≤_}
 use mathlib.Core.Path.{_≡_, refl, sym, _∙_}
 use native.Mathlib.Omega.{arith}
 use borrow.Author.Needs.{needs}
 use lib.ListN.{length, take, length-map}
-use Rattle.record.specs.Level.{levelOf}
 use Rattle.record.specs.Valid.{mostBlocks, allBlocks}
 use Rattle.record.proofs.Laws.{blockAt}
 use Rattle.syntax.specs.Element.{sumOfWidths, blockElements, blocksElements}

@@ -1,9 +1,8 @@
 -- `writer::bytes_needed` meets its contract.
 use borrow.Author.Needs.{needs}
 use Prim.Native.Nat.{_+_, _/_}
-use mathlib.Core.Path.{_≡_, _∙_, ap}
+use mathlib.Core.Path.{_∙_, ap}
 use native.Mathlib.Omega.{arith}
-use Rattle.bits.specs.Reading.{toBoundary}
 use Rattle.writer.proofs.Room.{needed}
 use Rattle.writer.proofs.bytes_needed.Statement.{statement}
 use Rattle.writer.proofs.bytes_needed.Tie as tie

@@ -1,11 +1,10 @@
 -- `writer::open_bits` meets its contract.
 use borrow.Author.Needs.{needs}
-use Prim.Native.Nat.{_≤_, _+_}
-use mathlib.Core.Path.{_≡_, _∙_, sym, ap}
+use Prim.Native.Nat.{_+_}
+use mathlib.Core.Path.{_∙_, sym, ap}
 use mathlib.Core.Bool.{true, false}
 use native.Mathlib.Omega.{arith}
 use borrow.Author.Tests.{eq-eqb, ne-eqb}
-use Rattle.bits.specs.Reading.{toBoundary}
 use Rattle.writer.proofs.Room.{open-width}
 use Rattle.writer.proofs.open_bits.Statement.{statement}
 use Rattle.writer.proofs.open_bits.Tie as tie

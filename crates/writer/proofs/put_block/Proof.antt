@@ -1,10 +1,10 @@
 -- `writer::put_block` meets its contract: the length, the level, the fields and the zero bits, one behind the other.
 use borrow.Author.Needs.{needs}
-use Prim.Native.Nat.{_+_, _<_, _≤_}
-use mathlib.Core.Path.{_≡_, _∙_, sym, ap}
+use Prim.Native.Nat.{_+_}
+use mathlib.Core.Path.{_≡_, _∙_, ap}
 use mathlib.Core.List.{_++_}
 use native.Mathlib.Omega.{arith}
-use lib.ListN.{length, length-append}
+use lib.ListN.{length-append}
 use Rattle.bits.specs.Bits.{code}
 use Rattle.bits.specs.Codes.{ueCode}
 use Rattle.bits.specs.Coding.{fieldsCode, totalWidth}

@@ -1,12 +1,11 @@
 -- `writer::put_blocks` meets its contract: the first j blocks are written.
 use Prim.Native.Nat.{_-_, _+_, _<_, _≤_}
-use mathlib.Core.Path.{_≡_, refl, sym, _∙_}
+use mathlib.Core.Path.{_≡_, sym, _∙_}
 use native.Mathlib.Omega.{arith}
-use borrow.Author.Needs.{needs}
 use lib.ListN.{length, take, length-map}
 use Rattle.pen.specs.Writing.{Wrote}
 use Rattle.pen.proofs.Writing.{wrote-none, wrote-then, room-left}
-use Rattle.record.specs.Valid.{mostBlocks, allBlocks, blocks}
+use Rattle.record.specs.Valid.{mostBlocks, allBlocks}
 use Rattle.record.proofs.Laws.{blockAt}
 use Rattle.record.proofs.Clauses.{valid-means}
 use Rattle.syntax.specs.Element.{allBits, sumOfWidths, blockElements, blocksElements}

@@ -1,22 +1,19 @@
 -- `writer::put_fields` meets its contract, level by level.
 use borrow.Author.Needs.{needs}
-use Prim.Native.Nat.{_+_, _<_, _≤_}
-use mathlib.Core.Path.{_≡_, _∙_, sym, ap}
-use mathlib.Core.List.{_++_, append-nil}
+use Prim.Native.Nat.{_<_}
+use mathlib.Core.Path.{_≡_}
+use mathlib.Core.List.{append-nil}
 use mathlib.Core.Bool.{true}
 use native.Mathlib.Omega.{arith}
 use lib.IntN.{ℤ}
 use lib.Signed.{mag}
-use lib.ListN.{length, length-append}
 use mir.Val.{toZ, ofZ, SFits}
 use mir.ValLaws.{toZ-ofZ}
 use mir.Syntax.{w16, w32}
 use Rattle.bits.specs.Bits.{code}
 use Rattle.bits.specs.Coding.{fieldsCode, totalWidth, holds, signed, complement}
-use Rattle.pen.specs.Writing.{Wrote}
 use Rattle.pen.proofs.Writing.{wrote-none, wrote-then, room-left}
 use Rattle.record.specs.declared.Block.the-variants.{Nothing}
-use Rattle.record.specs.Level.{codings, levelOf, valuesOf}
 use Rattle.writer.proofs.Parts.{length-trims, level1-code, level2-code, level5-code, weight-held}
 use Rattle.writer.proofs.put_fields.Statement.{statement}
 use Rattle.writer.proofs.put_fields.Tie as tie

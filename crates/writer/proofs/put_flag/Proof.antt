@@ -1,11 +1,10 @@
 -- `writer::put_flag` meets its contract.
 use borrow.Author.Needs.{needs}
-use Prim.Native.Nat.{_+_, _<_, _≤_}
-use mathlib.Core.Path.{_≡_, _∙_, sym, ap}
-use mathlib.Core.Bool.{Bool, true, false}
+use Prim.Native.Nat.{_+_}
+use mathlib.Core.Path.{_≡_, _∙_, ap}
+use mathlib.Core.Bool.{Bool}
 use native.Mathlib.Omega.{arith}
 use lib.ListN.{length}
-use Rattle.bits.specs.Bits.{code}
 use Rattle.bits.specs.Codes.{ueCode}
 use Rattle.bits.proofs.Bits.{length-code}
 use Rattle.pen.proofs.Writing.{wrote-then, room-left}

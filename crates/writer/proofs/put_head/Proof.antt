@@ -1,13 +1,8 @@
 -- `writer::put_head` meets its contract.
 use borrow.Author.Needs.{needs}
-use Prim.Native.Nat.{_+_, _<_, _≤_}
-use mathlib.Core.Path.{_≡_, _∙_, sym, ap}
-use mathlib.Core.List.{_++_}
 use native.Mathlib.Omega.{arith}
 use lib.ListN.{length, length-append}
 use Rattle.bits.specs.Codes.{ueCode}
-use Rattle.pen.specs.declared.Pen.{Pen}
-use Rattle.pen.specs.Writing.{startPen, Sound, Room, Wrote}
 use Rattle.pen.proofs.Writing.{start-sound, wrote-then, room-left}
 use Rattle.syntax.proofs.Head.{head-bits}
 use Rattle.writer.specs.Writing.{flagCode}

@@ -1,10 +1,6 @@
 -- `writer::put_level5` meets its contract.
 use borrow.Author.Needs.{needs}
-use Prim.Native.Nat.{_+_, _≤_}
-use mathlib.Core.Path.{_≡_, _∙_, sym, ap}
 use native.Mathlib.Omega.{arith}
-use Rattle.bits.specs.Bits.{code}
-use Rattle.bits.proofs.Bits.{length-code}
 use Rattle.pen.proofs.Writing.{wrote-then, room-left}
 use Rattle.writer.proofs.Parts.{length-pair}
 use Rattle.writer.proofs.put_level5.Statement.{statement}

@@ -1,13 +1,8 @@
 -- `writer::put_open` meets its contract.
 use borrow.Author.Needs.{needs}
-use Prim.Native.Nat.{_+_, _≤_}
-use mathlib.Core.Path.{_≡_, _∙_, sym, ap}
-use mathlib.Core.Bool.{true, false}
 use native.Mathlib.Omega.{arith}
 use borrow.Author.Tests.{eq-eqb, ne-eqb}
-use lib.Dec.{eqb}
-use Rattle.bits.specs.Reading.{toBoundary}
-use Rattle.syntax.specs.Element.{sumOfWidths, headElements, openElements}
+use Rattle.syntax.specs.Element.{headElements}
 use Rattle.writer.proofs.Room.{open-least}
 use Rattle.writer.proofs.Parts.{byte-room, byte-wrote}
 use Rattle.writer.proofs.put_open.Statement.{statement}

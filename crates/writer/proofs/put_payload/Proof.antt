@@ -1,14 +1,12 @@
 -- `writer::put_payload` meets its contract: what stands before the blocks, the blocks, and zero bits to the byte.
 use borrow.Author.Needs.{needs}
-use Prim.Native.Nat.{_+_, _*_, _≤_}
-use mathlib.Core.Path.{_≡_, sym, _∙_}
+use Prim.Native.Nat.{_+_}
 use mathlib.Core.List.{_++_}
 use native.Mathlib.Omega.{arith}
-use lib.ListN.{length}
 use Rattle.pen.specs.Writing.{Wrote, startPen}
 use Rattle.pen.proofs.Writing.{wrote-then, room-left}
 use Rattle.record.specs.Valid.{blocks}
-use Rattle.syntax.specs.Element.{allBits, sumOfWidths, toByte, openElements, blocksElements, elements}
+use Rattle.syntax.specs.Element.{allBits, sumOfWidths, openElements, blocksElements, elements}
 use Rattle.syntax.proofs.Rows.{length-all, bits-append}
 use Rattle.syntax.proofs.Largest.{widths-append, widths-to-byte}
 use Rattle.writer.proofs.Parts.{byte-room, byte-wrote}

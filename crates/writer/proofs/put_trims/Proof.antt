@@ -1,11 +1,9 @@
 -- `writer::put_trims` meets its contract.
 use borrow.Author.Needs.{needs}
-use Prim.Native.Nat.{_+_, _≤_}
-use mathlib.Core.Path.{_≡_, _∙_, sym, ap}
+use Prim.Native.Nat.{_+_}
 use native.Mathlib.Omega.{arith}
 use mathlib.Core.List.{_++_}
 use Rattle.bits.specs.Bits.{code}
-use Rattle.bits.proofs.Bits.{length-code}
 use Rattle.pen.proofs.Writing.{wrote-then, room-left}
 use Rattle.writer.proofs.Parts.{length-pair}
 use lib.ListN.{length-append}

@@ -1,13 +1,13 @@
 -- `writer::write_data` meets its contract: the record is judged, then the room, and only then a byte is written.
 use borrow.Author.Needs.{needs}
-use Prim.Native.Nat.{ℕ, _≤_, _<_}
-use mathlib.Core.Path.{_≡_, sym, ap, _∙_}
-use mathlib.Core.Bool.{true, false}
+use Prim.Native.Nat.{_≤_}
+use mathlib.Core.Path.{_≡_, sym, _∙_}
+use mathlib.Core.Bool.{true}
 use native.Mathlib.Omega.{arith}
 use lib.ListN.{length}
 use Rattle.record.specs.Valid.{valid}
 use Rattle.record.proofs.Clauses.{valid-means}
-use Rattle.syntax.specs.Element.{allBits, elements, payload, bitsOfData}
+use Rattle.syntax.specs.Element.{elements, payload}
 use Rattle.syntax.proofs.Rows.{length-all}
 use Rattle.syntax.proofs.Exact.{whole}
 use Rattle.writer.proofs.Parts.{all-written}

@@ -1,0 +1,72 @@
+#!/usr/bin/env bash
+# docs/PROMISES.md keeps step with the tree: every must-fail edit is named there, every edit that it names is there, and every
+# statement that it cites stands in the file that it says.
+set -euo pipefail
+cd "$(dirname "$0")/.."
+python3 - <<'PYTHON'
+import glob, os, re, sys
+
+faults = []
+
+# The cells of every table, by the column's heading.
+cells, headings = [], []
+for line in open('docs/PROMISES.md'):
+    row = [cell.strip() for cell in line.strip().strip('|').split('|')]
+    if not line.startswith('|'):
+        headings = []
+    elif not headings:
+        headings = row
+    else:
+        cells += zip(headings, row)
+
+# ---- edits: `crate: label, label; crate: label`, or labels alone
+edits = {(path.split('/')[1], os.path.basename(path)[:-len('.edit')]) for path in glob.glob('crates/*/must-fail/*.edit')}
+labels = {label for crate, label in edits}
+named = set()
+for heading, cell in cells:
+    if heading == 'edit' or heading.startswith('wrong programs'):
+        crate = None
+        for word in re.findall(r'[a-z]+: |\w+', re.sub(r'`[^`]*`|(tests|samples)/\S+', '', cell)):
+            if word.endswith(': '):
+                crate = word[:-2]
+            elif word in labels or '_' in word:
+                named.add((crate, word))
+for crate, label in sorted(edits):
+    if (crate, label) not in named and (None, label) not in named:
+        faults.append(f'crates/{crate}/must-fail/{label}.edit is not named')
+for crate, label in named:
+    if (crate, label) not in edits and (crate or label not in labels):
+        faults.append(f'{crate}: {label} is named, and there is no such edit')
+
+# ---- statements: `crate/File: name`, `crate/specs/File: name`, `crate/specs: name`, `crate: function`, a name alone, or a file
+texts = {path: open(path).read() for path in glob.glob('crates/*/**/*.antt', recursive=True) + glob.glob('crates/*/src/*.rt')}
+others = {'requires', 'result', 'buffer', 'table', 'io::read_full'}  # words of Rattle, clauses, a function of the kit
+
+def stands(name, paths):
+    defined = re.compile(r'^\s*(?:(?:pub|abbrev|unfoldable|record) )*' + re.escape(name) + r'(?: \(.*\))* :'
+                         r'|\b(?:fn|struct|enum) ' + re.escape(name.split('::')[-1]) + r'\b', re.M)
+    return any(defined.search(texts[path]) for path in paths)
+
+for heading, cell in cells:
+    for cited in re.findall(r'`([^`]+)`', cell) if heading == 'statement' else []:
+        place, _, name = cited.rpartition(': ')
+        crate, _, file = place.partition('/')
+        if not place:
+            paths = list(texts)
+        elif not file:
+            paths = [f'crates/{crate}/src/lib.rt']
+        elif file == 'specs':
+            paths = [path for path in texts if path.startswith(f'crates/{crate}/specs/')]
+        else:
+            paths = [path for path in texts if path.startswith(f'crates/{crate}/') and path.endswith(f'/{file}.antt')]
+        if '/' in name:
+            found = any(path in (f'crates/{name}', f'crates/{name}.antt') for path in texts)
+        else:
+            found = name in others or stands(name, paths)
+        if not found:
+            faults.append(f'`{cited}` is cited and does not stand there')
+
+for fault in faults:
+    print('docs/PROMISES.md:', fault)
+sys.exit(1 if faults else 0)
+PYTHON
