@@ -1,6 +1,6 @@
 #!/usr/bin/env bash
-# docs/PROMISES.md keeps step with the tree: every must-fail edit is named there, every edit that it names is there, and every
-# statement that it cites stands in the file that it says.
+# docs/PROMISES.md keeps step with the tree: every must-fail edit is named there, every edit that it names is there, every
+# statement that it cites stands in the file that it says, and every public function is listed there and has its one-answer law.
 set -euo pipefail
 cd "$(dirname "$0")/.."
 python3 - <<'PYTHON'
@@ -65,6 +65,17 @@ for heading, cell in cells:
             found = name in others or stands(name, paths)
         if not found:
             faults.append(f'`{cited}` is cited and does not stand there')
+
+# ---- public functions
+listed = open('docs/PROMISES.md').read().partition('## Every public function')[2]
+for path in sorted(glob.glob('crates/*/src/lib.rt')):
+    crate = path.split('/')[1]
+    laws = texts.get(f'crates/{crate}/proofs/OneAnswer.antt', '')
+    for name in re.findall(r'pub (?:extern "C" )?fn (\w+)', texts[path]):
+        if not re.search(r'\b' + name + r'\b', listed):
+            faults.append(f'{crate}::{name} is public and not listed')
+        if not re.search('^ *pub ' + name.replace('_', '-') + '-one :', laws, re.M):
+            faults.append(f'{crate}::{name} has no law in crates/{crate}/proofs/OneAnswer.antt')
 
 for fault in faults:
     print('docs/PROMISES.md:', fault)
