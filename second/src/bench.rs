@@ -8,7 +8,8 @@
 use crate::compare::Track;
 use crate::own;
 use crate::proved;
-use crate::record::{block_to_flat, flat, Block, Record, BARE_BYTES, EMPTY, FLAT};
+use crate::reader::WRAPPER;
+use crate::record::{block_to_flat, flat, Block, Record, BARE_BYTES, EMPTY, FLAT, WRAPPED_BYTES};
 use crate::track::{Point, FLAT_TABLE, POINTS};
 use std::mem::MaybeUninit;
 
@@ -18,8 +19,8 @@ pub const OPERATIONS: [&str; 8] = [
 ];
 
 /// The operations of `stack`.
-pub const STACK_OPERATIONS: [&str; 7] = [
-    "read8", "read224", "write224", "shader", "place", "lookup40", "join40",
+pub const STACK_OPERATIONS: [&str; 9] = [
+    "read8", "read224", "read232", "write224", "write232", "shader", "place", "lookup40", "join40",
 ];
 
 // The functions of both implementations.
@@ -274,6 +275,35 @@ pub fn stack(operation: &str, own_one: bool) -> Option<usize> {
                 function,
                 |_, _, _| 0,
                 |read| number |= read(&payload, &mut record, &mut 0),
+            )
+        }
+        "read232" => {
+            let (data, _) = payload(224);
+            let input = [&WRAPPER[..], &data].concat();
+            let mut record = [0; FLAT];
+            let function: Read = if own_one {
+                own::read_wrapped
+            } else {
+                proved::read_wrapped
+            };
+            used(
+                function,
+                |_, _, _| 0,
+                |read| number |= read(&input, &mut record, &mut 0),
+            )
+        }
+        "write232" => {
+            let (_, record) = payload(224);
+            let mut output = [0; WRAPPED_BYTES];
+            let function: Write = if own_one {
+                own::write_wrapped
+            } else {
+                proved::write_wrapped
+            };
+            used(
+                function,
+                |_, _, _| 0,
+                |write| number |= write(&record, &mut output, &mut 0),
             )
         }
         "write224" => {

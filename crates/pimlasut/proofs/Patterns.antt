@@ -1,13 +1,10 @@
 -- No number that the shader gets has the pattern of what is no number.
-use Prim.Native.Nat.{ℕ, zero, suc, _<_}
-use mathlib.Core.Path.{_≡_, refl, ap, _∙_}
-use mathlib.Core.Logic.{⊎-elim}
+use Prim.Native.Nat.{ℕ, _<_}
+use mathlib.Core.Path.{_≡_, refl, subst}
 use mathlib.Core.Bool.{Bool, true, false, not, cond, _&&_}
 use mathlib.Core.List.{map}
-use native.Mathlib.Nat.{not-suc-le-zero, eq-or-lt-of-le, le-of-suc-le-suc}
 use native.Mathlib.Omega.{arith}
-use borrow.Author.Tests.{ltb-true}
-use lib.Dec.{T, eqb, ltb}
+use lib.Dec.{T, eqb}
 use lib.Ieee.{Float, nan, inf, fin, binary32, toBits, isNan}
 use lib.IntN.{ℤ, pos, negsuc}
 use lib.ListN.{replicate}
@@ -17,9 +14,8 @@ use Rattle.record.specs.declared.Block.the-variants.{Nothing, Level1, Level2, L
 use Rattle.record.specs.Level.{levelOf, valuesOf}
 use Rattle.record.specs.Valid.{inRange}
 use Rattle.shader.specs.Shader.{singleBits, conversionBits}
+use Rattle.shader.proofs.Codes.{below, at-each-code}
 use Rattle.shader.proofs.Ranges.{codes}
-use Rattle.flat.specs.Flat.{always}
-use Rattle.record.proofs.Laws.{and-left, and-right}
 use Rattle.pimlasut.specs.Boundary.{noNumber, Patterns}
 
 -- whatever has another pattern is a number
@@ -29,27 +25,20 @@ is-number nan h = absurd (h refl)
 is-number (inf s) h = tt
 is-number (fin s m e) h = tt
 
-always-at : (test : ℕ → Bool) (n : ℕ) → always test n ≡ true → (k : ℕ) → k < n → test k ≡ true
-unfolding always
-always-at test zero h k l = absurd (not-suc-le-zero l)
-always-at test (suc n) h k l =
-    ⊎-elim
-    (λ e. ap test e ∙ and-right (always test n) (test n) h)
-    (λ m. always-at test n (and-left (always test n) (test n) h) k m)
-    (eq-or-lt-of-le (le-of-suc-le-suc l))
+is-other : ℤ → Bool
+is-other z = not (eqb (singleBits z) noNumber)
 
--- each of the 8,192 codes, by computing
-below : always (λ n. ltb (singleBits (pos n)) noNumber) 4096 ≡ true
-unfolding always singleBits
-below = refl
+plus : T (below (λ (n : ℕ). is-other (pos n)) 4096)
+unfolding is-other singleBits
+plus = tt
 
-above : always (λ n. ltb noNumber (singleBits (negsuc n))) 4096 ≡ true
-unfolding always singleBits
-above = refl
+minus : T (below (λ (n : ℕ). is-other (negsuc n)) 4096)
+unfolding is-other singleBits
+minus = tt
 
 code-is-number : (z : ℤ) → mag z < 4096 → singleBits z ≡ noNumber → ⊥
-code-is-number (pos n) h e = omega (arith, e, ltb-true (singleBits (pos n)) noNumber (always-at (λ n. ltb (singleBits (pos n)) noNumber) 4096 below n h))
-code-is-number (negsuc n) h e = omega (arith, e, ltb-true noNumber (singleBits (negsuc n)) (always-at (λ n. ltb noNumber (singleBits (negsuc n))) 4096 above n h))
+unfolding is-other
+code-is-number z h e = subst (λ (m : ℕ). T (not (eqb m noNumber))) e (at-each-code is-other plus minus z h)
 
 pub conversion-is-numbers : (b : Block) → Patterns (conversionBits b)
 conversion-is-numbers b = go b (inRange b) refl

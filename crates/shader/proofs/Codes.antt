@@ -18,7 +18,7 @@ both-right : (a b : Bool) → T (a && b) → T b
 both-right true b t = t
 both-right false b t = absurd t
 
-abbrev below : (ℕ → Bool) → ℕ → Bool
+abbrev pub below : (ℕ → Bool) → ℕ → Bool
 below test zero = true
 below test (suc n) = test n && below test n
 
@@ -29,6 +29,11 @@ at test (suc n) t k h =
     (λ e. subst (λ (m : ℕ). T (test m)) (sym e) (both-left (test n) (below test n) t))
     (λ l. at test n (both-right (test n) (below test n) t) k l)
     (eq-or-lt-of-le (le-of-suc-le-suc h))
+
+-- a test that passes at each code from 0 to 4,095 and from -1 to -4,096
+pub at-each-code : (test : ℤ → Bool) → T (below (λ (n : ℕ). test (pos n)) 4096) → T (below (λ (n : ℕ). test (negsuc n)) 4096) → (z : ℤ) → mag z < 4096 → T (test z)
+at-each-code test plus minus (pos k) h = at (λ (n : ℕ). test (pos n)) 4096 plus k h
+at-each-code test plus minus (negsuc k) h = at (λ (n : ℕ). test (negsuc n)) 4096 minus k h
 
 -- what the code computes: the number as a float, divided by 4,096.0
 abbrev pub quotient : ℤ → Float
@@ -47,8 +52,7 @@ minus = tt
 
 pub quotient-bits : (z : ℤ) → mag z < 4096 → toBits binary32 (quotient z) ≡ singleBits z
 unfolding bits-right
-quotient-bits (pos k) h = eqb→eq (toBits binary32 (quotient (pos k))) (singleBits (pos k)) (at (λ (n : ℕ). bits-right (pos n)) 4096 plus k h)
-quotient-bits (negsuc k) h = eqb→eq (toBits binary32 (quotient (negsuc k))) (singleBits (negsuc k)) (at (λ (n : ℕ). bits-right (negsuc n)) 4096 minus k h)
+quotient-bits z h = eqb→eq (toBits binary32 (quotient z)) (singleBits z) (at-each-code bits-right plus minus z h)
 
 -- the float x is exactly z / 4,096: its sign is z's, and its m × 2^e times 4,096 is z's magnitude
 abbrev pub isExactly : ℤ → Float → Bool
@@ -70,5 +74,4 @@ exact-minus = tt
 -- nothing is rounded: the number with those bits is exactly code / 4,096
 pub singles-are-exact : (z : ℤ) → mag z < 4096 → T (isExactly z (ofBits binary32 (singleBits z)))
 unfolding exact-right
-singles-are-exact (pos k) h = at (λ (n : ℕ). exact-right (pos n)) 4096 exact-plus k h
-singles-are-exact (negsuc k) h = at (λ (n : ℕ). exact-right (negsuc n)) 4096 exact-minus k h
+singles-are-exact z h = at-each-code exact-right exact-plus exact-minus z h

@@ -9,7 +9,7 @@ ghost use Prim.Native.Nat.{_+_, _*_, _<_};
 ghost use lib.ListN.{length};
 ghost use lib.Seq.{paste};
 ghost use Rattle.plan.specs.Limit.{mostPoints};
-ghost use Rattle.track.specs.Working.{scanOf, chosenOf, notedPoint};
+ghost use Rattle.track.specs.Working.{scanOf, chosenOf};
 ghost use Rattle.tables.specs.Table.{flatPoint, pointLength, tableLength, zeros, pointIn, tableIn, filledAs};
 
 // How many numbers a point has, and a table.
@@ -53,17 +53,6 @@ pub fn clear(table: &mut [i32])
     }
 }
 
-// A scan's turn.
-fn note_point(seen: Scanned, index: usize, point: Point) -> Scanned
-    requires { ⌜ index < mostPoints ⌝ }
-    ensures { λ r. ⌜ r ≡ notedPoint seen index point ⌝ }
-{
-    let picture = point.picture;
-    let shown = point.record;
-    let usable = shown.refresh & record::is_valid(shown);
-    plan::note(seen, index, picture, usable)
-}
-
 // The one pass over a table: whether it is a track, and its numbers.
 pub fn scan(table: &[i32], count: usize) -> Scanned
     requires { ⌜ length (now table) ≡ tableLength ⌝ }
@@ -74,7 +63,7 @@ pub fn scan(table: &[i32], count: usize) -> Scanned
     let mut i: usize = 0;
     while i < extent {
         let point = get_point(table, i);
-        seen = note_point(seen, i, point);
+        seen = track::note_point(seen, i, point);
         i += 1;
     }
     seen

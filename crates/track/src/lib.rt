@@ -39,7 +39,7 @@ fn may_stand(shown: Record) -> bool
 }
 
 // A scan's turn. A point's inside is seen here and nowhere else in a scan.
-fn note_point(seen: Scanned, index: usize, point: Point) -> Scanned
+pub fn note_point(seen: Scanned, index: usize, point: Point) -> Scanned
     requires { ⌜ index < mostPoints ⌝ }
     ensures { λ r. ⌜ r ≡ notedPoint seen index point ⌝ }
 {
