@@ -41,7 +41,7 @@ extern "C" {
 #define PIM_BLOCKS 18
 #define PIM_PLACE_LEN 8
 #define PIM_PLACE(i) (2 + PIM_PLACE_LEN * (i))
-#define PIM_RECORD_LEN 146
+#define PIM_RECORD_LEN PIM_PLACE(PIM_BLOCKS) /* 146 */
 
 /* No payload is longer, bare and wrapped. */
 #define PIM_BARE_BYTES 224
@@ -60,9 +60,9 @@ extern "C" {
  * flag 1. What lies past them is ignored. With count 0 any table is the empty track.
  */
 #define PIM_POINTS 64
-#define PIM_POINT_LEN 147
+#define PIM_POINT_LEN (1 + PIM_RECORD_LEN) /* 147 */
 #define PIM_POINT(i) (PIM_POINT_LEN * (i))
-#define PIM_TABLE_LEN 9408
+#define PIM_TABLE_LEN PIM_POINT(PIM_POINTS) /* 9,408 */
 
 /* The numbers that the shader gets. */
 #define PIM_SHADER_LEN 7

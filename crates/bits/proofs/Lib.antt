@@ -1,10 +1,4 @@
-pub mod Lists
-pub mod Bits
-pub mod Reading
 pub mod Casts
 pub mod Signed
-pub mod Codes
-pub mod Elements
-pub mod Takes
+pub mod Reading
 pub mod OneAnswer
-pub mod Refuses

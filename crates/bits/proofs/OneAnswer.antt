@@ -5,15 +5,13 @@ use mathlib.Core.List.{List}
 use contract.Lifetimes.{Lfts}
 use denote.Triple.Clauses.{AtExit}
 use borrow.Fn.Kinds.{PK, RK, Out, Dens, resT, endedOf}
-use Rattle.bits.specs.Bits.{Bytes}
+use Rattle.tree.specs.Bits.{Bytes}
 use Rattle.bits.proofs.field.Kinds as field
 use Rattle.bits.proofs.field.Reads as field-contract
 use Rattle.bits.proofs.to_signed.Kinds as to-signed
 use Rattle.bits.proofs.to_signed.Reads as to-signed-contract
 use Rattle.bits.proofs.read_u.Kinds as read-u
 use Rattle.bits.proofs.read_u.Reads as read-u-contract
-use Rattle.bits.proofs.read_i.Kinds as read-i
-use Rattle.bits.proofs.read_i.Reads as read-i-contract
 use Rattle.bits.proofs.read_ue.Kinds as read-ue
 use Rattle.bits.proofs.read_ue.Reads as read-ue-contract
 use Rattle.bits.proofs.read_zeros.Kinds as read-zeros
@@ -38,9 +36,6 @@ to-signed-one κs a x y s t e f = e ∙ sym f
 
 pub read-u-one : OneResult read-u.ps read-u.r read-u-contract.Post
 read-u-one κs a x y s t e f = e ∙ sym f
-
-pub read-i-one : OneResult read-i.ps read-i.r read-i-contract.Post
-read-i-one κs a x y s t e f = e ∙ sym f
 
 pub read-ue-one : OneResult read-ue.ps read-ue.r read-ue-contract.Post
 read-ue-one κs a x y s t e f = e ∙ sym f

@@ -12,27 +12,14 @@ use lib.Signed.{leZ, nonNeg}
 use mir.Val.{toZ, ofZ, Fits, SFits}
 use mir.ValLaws.{toZ-pos, toZ-ofZ}
 use mir.Syntax.{w32, w64}
-use Rattle.bits.specs.Reading.{signedOf}
+use Rattle.tree.specs.Reading.{signedOf}
+use Rattle.tree.specs.Coding.{signed, holds, complement}
+use Rattle.tree.proofs.Elements.{twice-half, sub-below, signed-high}
 use Rattle.bits.proofs.Casts.{wider, unsigned}
-use Rattle.bits.specs.Coding.{signed, holds, complement}
 
 -- 1 << k in w bits
 pub shl-one : (k w : ℕ) → k < w → 1 * 2 ^ k % 2 ^ w ≡ 2 ^ k
 shl-one k w h = rw (one-mul (2 ^ k), mod-eq-of-lt (pow-lt h))
-
-pub twice-half : (n : ℕ) → 0 < n → 2 ^ n ≡ 2 * 2 ^ (n - 1)
-twice-half zero h = absurd (omega arith)
-twice-half (suc n) h = let e : suc n - 1 ≡ n = omega arith in rw (e, pow-succ' 2 n)
-
-pub sub-below : (v m : ℕ) → v < m → pos v -ℤ pos m ≡ negsuc (m - suc v)
-sub-below v zero h = absurd (omega arith)
-sub-below v (suc m) h = rw (lt-ltb v (suc m) h)
-
-pub signed-low : (n v : ℕ) → v < 2 ^ (n - 1) → signedOf n v ≡ pos v
-signed-low n v h = rw (lt-ltb v (2 ^ (n - 1)) h)
-
-pub signed-high : (n v : ℕ) → 2 ^ (n - 1) ≤ v → v < 2 ^ n → signedOf n v ≡ negsuc (2 ^ n - suc v)
-signed-high n v h k = rw (le-ltb v (2 ^ (n - 1)) h) (sub-below v (2 ^ n) k)
 
 pub power-fits : (n : ℕ) → n ≤ 32 → SFits w64 (pos (1 * 2 ^ n % 18446744073709551616))
 power-fits n h = let p : 2 ^ n ≤ 2 ^ 32 = pow-mono {j = 32} h in rw (shl-one n 64 (omega arith)) (record { sfits = omega arith })
@@ -84,7 +71,7 @@ module _ (n : ℕ) (z : ℤ) (f : SFits w32 z) (some : 0 < n) (most : n ≤ 32) 
       go : (z : ℤ) → holds (signed n) z ≡ true → leZ (pos 0) z ≡ false → 2 ^ n ≤ 2 ^ 32 → (pos (2 ^ n) +ℤ z ≡ pos (complement n z)) × (complement n z < 4294967296)
       go (pos v) h e p = let l : leZ (pos 0) (pos v) ≡ true = leb·zero v in let z : _≡_ {A = ℕ} 0 1 = cc in absurd (omega arith)
       go (negsuc v) h e p =
-          let l = ltb-true v (2 ^ (n - 1)) h in
+          let l = ltb-true v (2 ^ n - 2 ^ (n - 1)) h in
           (rw (le-ltb (2 ^ n) (suc v) (omega (arith, twice-half n some))), omega (arith, pow-pos n))
 
   pub sum-fits : SFits w64 sum

@@ -1,4 +1,1 @@
-pub mod Bits
-pub mod Reading
-pub mod Coding
-pub mod Codes
+pub mod Answer

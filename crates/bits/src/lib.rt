@@ -1,34 +1,21 @@
-// Bits of a lent slice, most significant first: u(n), i(n), ue(v) and zero bits, read at a bit position. Any position gets an
+// Bits of a lent slice, most significant first: u(n), ue(v) and zero bits, read at a bit position, and the sign of i(n). Any position gets an
 // answer, and nothing here knows what the bits mean.
+use refusals::Refusal;
 ghost use mathlib.Core.Path.{_≡_};
 ghost use mathlib.Core.Bool.{false};
 ghost use Prim.Native.Nat.{_+_, _*_, _<_, _≤_, _^_};
 ghost use lib.ListN.{length, getD, drop, take};
-ghost use Rattle.bits.specs.Bits.{bitsOf, bit, value};
-ghost use Rattle.bits.specs.Reading.{u, i, ue, zeros, zerosThenOne, signedOf, numberOf, integerOf};
+ghost use Rattle.tree.specs.Bits.{bitsOf, bit, value};
+ghost use Rattle.tree.specs.Reading.{u, ue, zerosThenOne, signedOf};
+ghost use Rattle.tree.specs.Syntax.{read, zeroBits};
+ghost use Rattle.bits.specs.Answer.{nameless, numberOf, spanOf, Own, ueNumber};
 
-// Why an input is refused, by the number of document 01. Made where the fault is found, and passed on as it is.
-pub struct Refusal {
-    pub number: u8,
-}
-
-impl Refusal {
-    pub const PAST_END: u8 = 1;
-
-    pub const TOO_MANY_ZEROS: u8 = 2;
-
-    pub const NOT_ZERO: u8 = 7;
-}
+// Ours: a ue(v) code has at most 15 zeros.
+pub const MOST_ZEROS: usize = 15;
 
 // A number that was read and how many bits it took, or why there is none.
 pub enum Number {
     Is { value: u32, width: usize },
-    Refused { why: Refusal },
-}
-
-// The same of a signed number.
-pub enum Integer {
-    Is { value: i32, width: usize },
     Refused { why: Refusal },
 }
 
@@ -67,7 +54,7 @@ pub fn field(s: &[u8], at: usize, n: usize) -> u32
 // u(n), `skip` bits behind position at.
 fn u_behind(s: &[u8], at: usize, skip: usize, n: usize) -> Number
     requires { ⌜ (skip ≤ 32) × (n ≤ 32) ⌝ }
-    ensures { λ r. ⌜ r ≡ numberOf (u n (drop (at + skip) (bitsOf (now (s .entry))))) ⌝ }
+    ensures { λ r. ⌜ r ≡ numberOf (u nameless n at (drop (at + skip) (bitsOf (now (s .entry))))) ⌝ }
 {
     if n == 0 {
         return Number::Is { value: 0, width: 0 };
@@ -88,7 +75,7 @@ fn u_behind(s: &[u8], at: usize, skip: usize, n: usize) -> Number
 // u(n), for every n up to 32.
 pub fn read_u(s: &[u8], at: usize, n: usize) -> Number
     requires { ⌜ n ≤ 32 ⌝ }
-    ensures { λ r. ⌜ r ≡ numberOf (u n (drop at (bitsOf (now (s .entry))))) ⌝ }
+    ensures { λ r. ⌜ r ≡ numberOf (u nameless n at (drop at (bitsOf (now (s .entry))))) ⌝ }
 {
     u_behind(s, at, 0, n)
 }
@@ -107,24 +94,10 @@ pub fn to_signed(v: u32, n: usize) -> i32
     }
 }
 
-// i(n), for every n from 1 to 32.
-pub fn read_i(s: &[u8], at: usize, n: usize) -> Integer
-    requires { ⌜ (0 < n) × (n ≤ 32) ⌝ }
-    ensures { λ r. ⌜ r ≡ integerOf (i n (drop at (bitsOf (now (s .entry))))) ⌝ }
-{
-    match read_u(s, at, n) {
-        Number::Refused { why } => Integer::Refused { why },
-        Number::Is { value, width } => Integer::Is {
-            value: to_signed(value, n),
-            width,
-        },
-    }
-}
-
 // The zeros of a ue(v) code and the one behind them.
 fn read_zeros_then_one(s: &[u8], at: usize, most: usize) -> Number
     requires { ⌜ most ≤ 31 ⌝ }
-    ensures { λ r. ⌜ r ≡ numberOf (zerosThenOne most 0 (drop at (bitsOf (now (s .entry))))) ⌝ }
+    ensures { λ r. ⌜ r ≡ numberOf (zerosThenOne nameless most at 0 (drop at (bitsOf (now (s .entry))))) ⌝ }
 {
     let mut k: usize = 0;
     loop {
@@ -152,30 +125,38 @@ fn read_zeros_then_one(s: &[u8], at: usize, most: usize) -> Number
     }
 }
 
+// The number of a ue(v) code with k zeros: what lies ahead of its own k bits is `ahead` bits wide.
+fn ue_number(k: u32, ahead: usize, own: Number) -> Number
+    requires { ⌜ (k ≤ 31) × (ahead ≤ 32) × Own k own ⌝ }
+    ensures { λ r. ⌜ r ≡ ueNumber k ahead own ⌝ }
+{
+    match own {
+        Number::Refused { why } => Number::Refused { why },
+        Number::Is { value, width } => Number::Is {
+            value: (1 << k) - 1 + value,
+            width: ahead + width,
+        },
+    }
+}
+
 // ue(v) with at most `most` zeros, for every such limit up to 31.
 pub fn read_ue(s: &[u8], at: usize, most: usize) -> Number
     requires { ⌜ most ≤ 31 ⌝ }
-    ensures { λ r. ⌜ r ≡ numberOf (ue most (drop at (bitsOf (now (s .entry))))) ⌝ }
+    ensures { λ r. ⌜ r ≡ numberOf (ue nameless most at (drop at (bitsOf (now (s .entry))))) ⌝ }
 {
     match read_zeros_then_one(s, at, most) {
         Number::Refused { why } => Number::Refused { why },
         Number::Is {
             value: k,
             width: ahead,
-        } => match u_behind(s, at, ahead, k as usize) {
-            Number::Refused { why } => Number::Refused { why },
-            Number::Is { value, width } => Number::Is {
-                value: (1 << k) - 1 + value,
-                width: ahead + width,
-            },
-        },
+        } => ue_number(k, ahead, u_behind(s, at, ahead, k as usize)),
     }
 }
 
 // n zero bits, of which the first that is a one or that is missing decides.
 pub fn read_zeros(s: &[u8], at: usize, n: usize) -> Number
     requires { ⌜ n < 2 ^ 32 ⌝ }
-    ensures { λ r. ⌜ r ≡ numberOf (zeros n (drop at (bitsOf (now (s .entry))))) ⌝ }
+    ensures { λ r. ⌜ r ≡ spanOf (read (zeroBits nameless n) at (drop at (bitsOf (now (s .entry))))) ⌝ }
 {
     let mut k: usize = 0;
     while k < n {

@@ -1,220 +1,265 @@
 -- Laws by which the functions that read a block meet their definitions.
-use Prim.Native.Nat.{ℕ, _+_, _-_, _*_, _^_, _<_, _≤_}
-use mathlib.Core.Path.{_≡_, refl, sym, _∙_}
-use mathlib.Core.List.{List, [], _∷_, map}
+use Prim.Native.Nat.{ℕ, _+_, _-_, _*_, _≤_}
+use mathlib.Core.Path.{_≡_, refl, ap, sym, _∙_}
+use mathlib.Core.List.{List, map}
 use mathlib.Core.Bool.{Bool, true, false, cond}
 use native.Mathlib.Omega.{arith}
 use native.Mathlib.Nat.{add-zero}
-use borrow.Author.Tests.{leb-true, leb-false, ltb-true, ltb-false, eq-eqb, ne-eqb}
-use lib.Dec.{leb, ltb, eqb}
+use borrow.Author.Tests.{eq-eqb, ne-eqb}
+use lib.Dec.{eqb}
 use lib.IntN.{ℤ, pos}
-use lib.ListN.{length, take, drop, length-drop}
-use lib.Pow.{pow-mono}
+use lib.ListN.{drop}
 use lib.Seq.{drop-drop}
-use mir.Syntax.{w16}
-use mir.Val.{SFits}
-use Rattle.bits.specs.Bits.{bitsOf, value}
-use Rattle.bits.specs.declared.Refusal.{Refusal}
-use Rattle.bits.specs.Reading.{Out, ok, no, Reader, andThen, mapped, pastEnd, u, i, ue, zeros, signedOf}
-use Rattle.bits.specs.Coding.{Coding, unsigned, signed, widthOf, fieldReader, totalWidth, fields}
-use Rattle.bits.proofs.Bits.{length-bits, length-rest}
-use Rattle.bits.specs.Codes.{Takes}
-use Rattle.bits.proofs.Codes.{no-not-ok}
-use Rattle.bits.proofs.Reading.{u-ok, u-short}
-use Rattle.bits.proofs.Signed.{twice-half, signed-low, signed-high}
-use Rattle.bits.proofs.Takes.{takes-u, takes-ue, takes-zeros, takes-no, takes-ok, takes-test, takes-weaken, takes-map, takes-then}
+use Rattle.refusals.specs.Refusals.{refusal, unknownLevel, wrongLength, notInOrder}
+use Rattle.refusals.specs.declared.Refusal.{Refusal}
+use Rattle.tree.specs.Reading.{Rule, Fault, numberIn, breaks, Out, ok, no, Reader, widened, andThen, mapped, u, ue}
+use Rattle.tree.specs.Coding.{unsigned, totalWidth, mostZeros, Descriptor, variable, fixed, natural, holdsIn, widthIn}
+use Rattle.tree.specs.Syntax.{Syntax, done, must, any, codingOf, row, zeroBits, read, _>>=_}
+use Rattle.tree.specs.Meaning.{Element, sumOfWidths, complete, Follow, Means}
+use Rattle.tree.proofs.Codes.{no-not-ok}
+use Rattle.tree.proofs.Elements.{codes-ue, length-ue, zeros-few}
+use Rattle.tree.proofs.Meaning.{widths-append, every-answer-is-true}
+use Rattle.tree.proofs.Tables.{read-then}
+use Rattle.tree.proofs.Spells.{apart-complete, any-only, must-only, done-only, row-only, zeros-only}
+use Rattle.tree.proofs.Steps.{read-any}
+use Rattle.tree.proofs.Widths.{widths-fields, variable-width}
+use Rattle.tree.proofs.Accepted.{widths-zeros}
 use Rattle.record.specs.declared.Block.{Block}
-use Rattle.record.specs.declared.Block.the-variants.{Nothing}
-use Rattle.record.specs.Level.{Level, level, level1, level2, level5, reserved, known, codings, padding}
-use Rattle.record.specs.Valid.{inOrder}
-use Rattle.syntax.specs.Data.{mostZeros, blockOf, ordered, content, body, block, notInOrder, wrongLength, unknownLevel}
-use Rattle.block.specs.declared.Step.the-variants.{Is, Refused}
-use Rattle.block.specs.Step.{stepOf, afterFields, afterLength}
-
--- ---- fields
-
--- the value of a field whose bits are v
-abbrev pub fieldValue : Coding → ℕ → ℤ
-fieldValue (unsigned n) v = pos v
-fieldValue (signed n) v = signedOf n v
-
--- the fields' values, from a position on
-abbrev pub valuesAt : List Coding → List Bool → ℕ → List ℤ
-valuesAt [] bits at = []
-valuesAt (c ∷ cs) bits at = fieldValue c (value (take (widthOf c) (drop at bits))) ∷ valuesAt cs bits (at + widthOf c)
-
-field-ok : (c : Coding) (l : List Bool) → widthOf c ≤ length l → fieldReader c l ≡ ok (fieldValue c (value (take (widthOf c) l))) (widthOf c)
-unfolding i
-field-ok (unsigned n) l h = rw (u-ok n l h)
-field-ok (signed n) l h = rw (u-ok n l h)
-
-field-short : (c : Coding) (l : List Bool) → length l < widthOf c → fieldReader c l ≡ no pastEnd
-unfolding i
-field-short (unsigned n) l h = rw (u-short n l h)
-field-short (signed n) l h = rw (u-short n l h)
-
-fields-ok : (cs : List Coding) (bits : List Bool) (at : ℕ) → at + totalWidth cs ≤ length bits → fields cs (drop at bits) ≡ ok (valuesAt cs bits at) (totalWidth cs)
-unfolding fields totalWidth
-fields-ok [] bits at h = refl
-fields-ok (c ∷ cs) bits at h =
-    let l : widthOf c ≤ length (drop at bits) = omega (arith, length-drop at bits) in
-    rw (field-ok c (drop at bits) l, drop-drop (widthOf c) at bits, fields-ok cs bits (at + widthOf c) (omega arith))
-
-fields-short : (cs : List Coding) (l : List Bool) → length l < totalWidth cs → fields cs l ≡ no pastEnd
-unfolding fields totalWidth
-fields-short [] l h = absurd (omega arith)
-fields-short (c ∷ cs) l h = go (fields-short cs (drop (widthOf c) l)) (leb (widthOf c) (length l)) refl
-  where
-    go : (length (drop (widthOf c) l) < totalWidth cs → fields cs (drop (widthOf c) l) ≡ no pastEnd) → (b : Bool) → leb (widthOf c) (length l) ≡ b → fields (c ∷ cs) l ≡ no pastEnd
-    go rest true e =
-        let m : widthOf c ≤ length l = leb-true (widthOf c) (length l) e in
-        rw (field-ok c l m, rest (omega (arith, length-drop (widthOf c) l)))
-    go rest false e = rw (field-short c l (leb-false (widthOf c) (length l) e))
-
--- 16 bits hold a signed field of at most 16 bits
-pub signed-fits : (n v : ℕ) → 0 < n → n ≤ 16 → v < 2 ^ n → SFits w16 (signedOf n v)
-signed-fits n v some most h = go (ltb v (2 ^ (n - 1))) refl
-  where
-    go : (b : Bool) → ltb v (2 ^ (n - 1)) ≡ b → SFits w16 (signedOf n v)
-    go true q =
-        let l = ltb-true v (2 ^ (n - 1)) q in
-        let p : 2 ^ (n - 1) ≤ 2 ^ 15 = pow-mono {j = 15} (omega arith) in
-        rw (signed-low n v l) (record { sfits = omega arith })
-    go false q =
-        let l = ltb-false v (2 ^ (n - 1)) q in
-        let p : 2 ^ (n - 1) ≤ 2 ^ 15 = pow-mono {j = 15} (omega arith) in
-        rw (signed-high n v l h) (record { sfits = omega (arith, twice-half n some) })
-
--- the answer for the fields of a level, where they are there, and where they are not
-module _ (l : ℕ) (s : List ℕ) (at : ℕ) where
-  pub fields-is : at + totalWidth (codings l) ≤ 8 * length s
-      → Is (blockOf l (valuesAt (codings l) (bitsOf s) at)) (totalWidth (codings l)) ≡ stepOf (mapped (blockOf l) (fields (codings l) (drop at (bitsOf s))))
-  fields-is h = rw (fields-ok (codings l) (bitsOf s) at (omega (arith, length-bits s)))
-
-  pub fields-refused : 0 < totalWidth (codings l) → 8 * length s < at + totalWidth (codings l)
-      → Refused pastEnd ≡ stepOf (mapped (blockOf l) (fields (codings l) (drop at (bitsOf s))))
-  fields-refused p h = rw (fields-short (codings l) (drop at (bitsOf s)) (omega (arith, length-rest s at)))
-
--- a level that is not known has no fields
-pub fields-none : (l : ℕ) (s : List Bool) → (l ≡ 1 → ⊥) → (l ≡ 2 → ⊥) → (l ≡ 5 → ⊥) → Is Nothing 0 ≡ stepOf (mapped (blockOf l) (fields (codings l) s))
-unfolding fields
-fields-none l s f g h =
-    let c : codings l ≡ [] = rw (ne-eqb l 1 f, ne-eqb l 2 g, ne-eqb l 5 h) in
-    let b : blockOf l [] ≡ Nothing = rw (ne-eqb l 1 f, ne-eqb l 2 g, ne-eqb l 5 h) in
-    rw (c, b)
+use Rattle.record.specs.declared.Block.the-variants.{Nothing, Level1, Level2, Level5}
+use Rattle.record.specs.Name.{Name, «ext_block_length», «ext_block_level», «ext_dm_alignment_zero_bit»}
+use Rattle.record.specs.Level.{Level, level, level1, level2, level5, reserved, known, fieldsOf, codings, padding}
+use Rattle.record.specs.Blocks.{inOrder}
+use Rattle.valid.specs.Valid.{isBlock}
+use Rattle.syntax.specs.Data.{blockOf, knownRule, lengthRule, averageRule, orderRules, content, wholeBlock, block}
+use Rattle.syntax.proofs.Blocks.{block-only, valid-is-block}
+use Rattle.syntax.proofs.Steps.{read-known, read-own-length, read-in-order, read-not-in-order}
+use Rattle.fields.specs.Step.{stepOf, refusedStep}
+use Rattle.fields.specs.declared.Step.the-variants.{Is, Refused}
+use Rattle.block.specs.Parts.{stepBehind, stepTook, afterFields, body, afterLength}
 
 -- ---- how many bits are taken
 
-takes-row : (cs : List Coding) → Takes (totalWidth cs) (fields cs)
-takes-row cs s zs n e = go (leb (totalWidth cs) (length s)) refl
-  where
-    go : (b : Bool) → leb (totalWidth cs) (length s) ≡ b → (n ≤ totalWidth cs) × (n ≤ length s)
-    go true q =
-        let h = leb-true (totalWidth cs) (length s) q in
-        let f : ok zs n ≡ ok (valuesAt cs s 0) (totalWidth cs) = sym e ∙ fields-ok cs s 0 (omega arith) in
-        let z : n ≡ totalWidth cs = cc in
-        (omega arith, omega arith)
-    go false q = no-not-ok (sym (fields-short cs s (leb-false (totalWidth cs) (length s) q)) ∙ e)
+-- p takes at most k bits
+abbrev pub Takes : {A : Type 0} → ℕ → Syntax Name A → Type 0
+Takes {A} k p = (at : ℕ) (es : List (Element Name)) (a : A) → Follow p at es (complete a) → sumOfWidths es ≤ k
 
--- a level by its tests, and its codings
+module _ {A : Type 0} (k : ℕ) (p : Syntax Name A) (h : Takes k p) (at : ℕ) (s : List Bool) where
+  -- when it accepts
+  pub takes-few : (a : A) (n : ℕ) → read p at s ≡ ok a n → n ≤ k
+  takes-few a n e =
+      let m : Means p at s (ok a n) = rw e at (every-answer-is-true p at s) in
+      omega (arith, m .3, h at (m .0) a (m .1))
+
+-- as a step
+pub took-few : (k : ℕ) (p : Syntax Name Block) → Takes k p → (at : ℕ) (s : List Bool) → stepTook (stepOf (read p at s)) ≤ k
+took-few k p h at s = go (read p at s) refl
+  where
+    go : (o : Out Name Block) → read p at s ≡ o → stepTook (stepOf o) ≤ k
+    go (ok a m) e = takes-few k p h at s a m e
+    go (no r) e = omega arith
+
+module _ {A B : Type 0} (k j : ℕ) where
+  takes-then : (p : Syntax Name A) (g : A → Syntax Name B) → Takes k p → ((a : A) → Takes j (g a)) → Takes (k + j) (p >>= g)
+  takes-then p g hp hg at es b h =
+      let a = apart-complete p g at es b h in
+      omega (arith, ap sumOfWidths (a .all), widths-append (a .first) (a .second), hp at (a .first) (a .made) (a .one), hg (a .made) (at + sumOfWidths (a .first)) (a .second) b (a .two))
+
+module _ {B : Type 0} (k : ℕ) where
+  takes-element : (j : ℕ) (n : Name) (d : Descriptor) (g : ℤ → Syntax Name B) → ((z : ℤ) → holdsIn d z ≡ true → widthIn d z ≤ j) → ((z : ℤ) → Takes k (g z)) → Takes (j + k) (any n d >>= g)
+  unfolding sumOfWidths
+  takes-element j n d g hd hg at es b h =
+      let a = any-only n d g at es b h in
+      omega (arith, ap sumOfWidths (a .all), hd (a .value) (a .held), hg (a .value) (at + widthIn d (a .value)) (a .rest) b (a .on))
+
+  takes-must : (r : Rule Name) (g : Unit {0} → Syntax Name B) → Takes k (g tt) → Takes k (must r >>= g)
+  takes-must r g h at es b f = h at es b (must-only r g at es b f .1)
+
+takes-done : {A : Type 0} (a : A) → Takes 0 (done a)
+unfolding sumOfWidths
+takes-done a at es b f = omega (arith, ap sumOfWidths (done-only a b at es f .0))
+
+-- a ue(v) code
+pub takes-length : (at : ℕ) (s : List Bool) (v n : ℕ) → ue «ext_block_length» mostZeros at s ≡ ok v n → n ≤ 2 * mostZeros + 1
+takes-length at s v n e =
+    let c = codes-ue «ext_block_length» mostZeros at .only s v n e in
+    omega (arith, c .2, length-ue v, zeros-few mostZeros v (c .0))
+
+-- the fields of a level fit into its bytes, with its zero bits behind them; no level has more bytes than level 2
 abbrev tested : Bool → Bool → Bool → Level
 tested a b c = cond a level1 (cond b level2 (cond c level5 reserved))
 
-abbrev row : Level → List Coding
-row v = map (λ f. f .coding) (v .fields)
-
--- a level's fields and zero bits are few
-few : (l : ℕ) → (totalWidth (codings l) ≤ 85) × (padding l ≤ 4)
+few : (l : ℕ) → (totalWidth (codings l) + padding l ≡ 8 * level l .bytes) × (level l .bytes ≤ level 2 .bytes)
 unfolding totalWidth
 few l = go (eqb l 1) (eqb l 2) (eqb l 5)
   where
-    go : (a b c : Bool) → (totalWidth (row (tested a b c)) ≤ 85) × (8 * tested a b c .bytes - totalWidth (row (tested a b c)) ≤ 4)
-    go true b c = (omega arith, omega arith)
-    go false true c = (omega arith, omega arith)
-    go false false true = (omega arith, omega arith)
-    go false false false = (omega arith, omega arith)
+    go : (a b c : Bool) → (totalWidth (map codingOf (tested a b c .fields)) + (8 * tested a b c .bytes - totalWidth (map codingOf (tested a b c .fields))) ≡ 8 * tested a b c .bytes) × (tested a b c .bytes ≤ level 2 .bytes)
+    go true b c = (refl, omega arith)
+    go false true c = (refl, omega arith)
+    go false false true = (refl, omega arith)
+    go false false false = (refl, omega arith)
 
-pub takes-level : (l : ℕ) → Takes 85 (λ s. mapped (blockOf l) (fields (codings l) s))
-takes-level l = takes-map 85 (fields (codings l)) (blockOf l) (takes-weaken (totalWidth (codings l)) 85 (fields (codings l)) (few l .0) (takes-row (codings l)))
+-- the most bits of a level's fields and zero bits; with the level; with the length
+abbrev pub contentBits : ℕ
+contentBits = 8 * level 2 .bytes
 
-pub takes-after-fields : (l : ℕ) (b : Block) → Takes 4 (afterFields l b)
-takes-after-fields l b =
-    takes-then 4 0 (zeros (padding l)) (λ z. ordered b) (takes-weaken (padding l) 4 (zeros (padding l)) (few l .1) (takes-zeros (padding l)))
-    (λ z. takes-test 0 (λ s. ok b 0) (λ s. no notInOrder) (takes-ok 0 b) (takes-no 0 notInOrder) (inOrder b))
+abbrev pub blockBits : ℕ
+blockBits = 2 * mostZeros + 1 + (8 + contentBits)
+
+takes-fields : (l : ℕ) → Takes (totalWidth (codings l)) (row (fieldsOf l))
+takes-fields l at es zs h =
+    let r = row-only (fieldsOf l) at es zs h in
+    omega (arith, ap sumOfWidths (r .1), widths-fields (fieldsOf l) zs (r .0))
+
+module _ (l at : ℕ) (s : List Bool) where
+  pub few-fields : (b : Block) (n : ℕ) → mapped (blockOf l) (read (row (fieldsOf l)) at s) ≡ ok b n → n ≤ contentBits
+  few-fields b n e = go (read (row (fieldsOf l)) at s) refl e
+    where
+      go : (o : Out Name (List ℤ)) → read (row (fieldsOf l)) at s ≡ o → mapped (blockOf l) o ≡ ok b n → n ≤ contentBits
+      go (ok zs m) q x =
+          let y : m ≡ n = cc in
+          omega (arith, takes-few (totalWidth (codings l)) (row (fieldsOf l)) (takes-fields l) at s zs m q, few l)
+      go (no f) q x = no-not-ok x
+
+takes-after-fields : (l : ℕ) (b : Block) → Takes (padding l) (afterFields l b)
+takes-after-fields l b at es a h =
+    let t = takes-then (padding l) 0 (zeroBits «ext_dm_alignment_zero_bit» (padding l)) (λ z. done b)
+    (λ there fs z f. omega (arith, ap sumOfWidths (zeros-only «ext_dm_alignment_zero_bit» (padding l) there fs f), widths-zeros (padding l) «ext_dm_alignment_zero_bit»)) (λ z. takes-done b) at es a h in
+    omega (arith, t)
+
+pub few-zeros : (l : ℕ) (b : Block) (at : ℕ) (s : List Bool) → stepTook (stepOf (read (afterFields l b) at s)) ≤ contentBits
+few-zeros l b at s = omega (arith, took-few (padding l) (afterFields l b) (takes-after-fields l b) at s, few l)
+
+takes-content : (l : ℕ) → Takes contentBits (content l)
+unfolding content
+takes-content l at es b h =
+    let t = takes-then (totalWidth (codings l)) (padding l) (row (fieldsOf l)) (λ zs. afterFields l (blockOf l zs)) (takes-fields l) (λ zs. takes-after-fields l (blockOf l zs)) at es b h in
+    omega (arith, t, few l)
+
+pub takes-body : (start there : ℕ) (n l : ℤ) → Takes contentBits (body start there n l)
+takes-body start there n l =
+    takes-must contentBits (knownRule there l) (λ known. must (lengthRule start n (natural l)) >>= λ own. content (natural l))
+    (takes-must contentBits (lengthRule start n (natural l)) (λ own. content (natural l)) (takes-content (natural l)))
+
+pub takes-after-length : (start : ℕ) (n : ℤ) → Takes (8 + contentBits) (afterLength start n)
+unfolding Follow _>>=_
+takes-after-length start n at es b h =
+    takes-element contentBits 8 «ext_block_level» (fixed (unsigned 8)) (body start at n) (λ z q. omega arith) (takes-body start at n) at es b h
+
+takes-whole-block : (start : ℕ) → Takes blockBits (wholeBlock start)
+unfolding wholeBlock
+takes-whole-block start = takes-element (8 + contentBits) (2 * mostZeros + 1) «ext_block_length» variable (afterLength start) variable-width (takes-after-length start)
+
+takes-order : (start : ℕ) (b : Block) → Takes 0 (orderRules start b >>= λ o. done b)
+unfolding _>>=_
+takes-order start Nothing = takes-done Nothing
+takes-order start (Level1 min max avg) = takes-must 0 (averageRule start min max avg) (λ o. done (Level1 min max avg)) (takes-done (Level1 min max avg))
+takes-order start (Level2 t s o p c g m) = takes-done (Level2 t s o p c g m)
+takes-order start (Level5 l r t b) = takes-done (Level5 l r t b)
+
+-- a block takes few bits
+takes-block : Takes blockBits block
+unfolding block Follow _>>=_
+takes-block at es b h =
+    let t = takes-then blockBits 0 (wholeBlock at) (λ c. orderRules at c >>= λ o. done c) (takes-whole-block at) (takes-order at) at es b h in
+    omega (arith, t)
+
+pub accepted-few : (at : ℕ) (s : List Bool) (b : Block) (n : ℕ) → read block at s ≡ ok b n → n ≤ blockBits
+accepted-few = takes-few blockBits block takes-block
+
+-- and is one
+pub accepted-is-block : (at : ℕ) (s : List Bool) (b : Block) (n : ℕ) → read block at s ≡ ok b n → isBlock b ≡ true
+accepted-is-block at s b n e =
+    let m : Means block at s (ok b n) = rw e at (every-answer-is-true block at s) in
+    valid-is-block b (block-only at (m .0) b (m .1) .0)
+
+-- ---- what reading each part comes to
+
+-- what the first part gave, as another value
+map-then : {A B C : Type 0} (h : A → B) (o : Out Name A) (k : B → Reader Name C) (at : ℕ) (s : List Bool) → andThen (mapped h o) k at s ≡ andThen o (λ a. k (h a)) at s
+map-then h (ok a n) k at s = refl
+map-then h (no f) k at s = refl
+
+pub read-closing : (l : ℕ) (b : Block) (at : ℕ) (s : List Bool) → read (afterFields l b) at s ≡ andThen (read (zeroBits «ext_dm_alignment_zero_bit» (padding l)) at s) (λ z. read (done b)) at s
+read-closing l b at s = read-then (zeroBits «ext_dm_alignment_zero_bit» (padding l)) (λ z. done b) at s
+
+pub read-fields : (l at : ℕ) (s : List Bool) → read (content l) at s ≡ andThen (mapped (blockOf l) (read (row (fieldsOf l)) at s)) (λ b. read (afterFields l b)) at s
+unfolding content
+read-fields l at s = read-then (row (fieldsOf l)) (λ zs. afterFields l (blockOf l zs)) at s ∙ sym (map-then (blockOf l) (read (row (fieldsOf l)) at s) (λ b. read (afterFields l b)) at s)
+
+here-level : (start : ℕ) (n : ℤ) (at : ℕ) (s : List Bool) → read (afterLength start n) at s ≡ read (any «ext_block_level» (fixed (unsigned 8)) >>= body start at n) at s
+unfolding read _>>=_
+here-level start n at s = refl
+
+pub read-level : (start : ℕ) (n : ℤ) (at : ℕ) (s : List Bool) → read (afterLength start n) at s ≡ andThen (u «ext_block_level» 8 at s) (λ l. read (body start at n (pos l))) at s
+read-level start n at s = here-level start n at s ∙ read-any «ext_block_level» (fixed (unsigned 8)) (body start at n) at s ∙ map-then pos (u «ext_block_level» 8 at s) (λ l. read (body start at n l)) at s
+
+pub read-length : (start at : ℕ) (s : List Bool) → read (wholeBlock start) at s ≡ andThen (ue «ext_block_length» mostZeros at s) (λ n. read (afterLength start (pos n))) at s
+unfolding wholeBlock
+read-length start at s = read-any «ext_block_length» variable (afterLength start) at s ∙ map-then pos (ue «ext_block_length» mostZeros at s) (λ n. read (afterLength start n)) at s
+
+here-block : (at : ℕ) (s : List Bool) → read block at s ≡ read (wholeBlock at >>= λ b. orderRules at b >>= λ o. done b) at s
+unfolding read _>>=_ block
+here-block at s = refl
+
+read-whole : (at : ℕ) (s : List Bool) → read block at s ≡ andThen (read (wholeBlock at) at s) (λ b. read (orderRules at b >>= λ o. done b)) at s
+read-whole at s = here-block at s ∙ read-then (wholeBlock at) (λ b. orderRules at b >>= λ o. done b) at s
 
 -- ---- answers
 
--- what an answer says of the reading that it is of
-pub step-ok : (o : Out Block) (b : Block) (n : ℕ) → Is b n ≡ stepOf o → o ≡ ok b n
-step-ok (ok a m) b n e = cc
-step-ok (no r) b n e = let z : _≡_ {A = ℕ} 0 1 = cc in absurd (omega arith)
+-- behind bits that are taken already
+shifted : (n : ℕ) (o : Out Name Block) → stepBehind n (stepOf o) ≡ stepOf (widened n o)
+shifted n (ok b m) = refl
+shifted n (no r) = refl
 
-pub step-no : (o : Out Block) (r : Refusal) → Refused r ≡ stepOf o → o ≡ no r
-step-no (ok a m) r e = let z : _≡_ {A = ℕ} 0 1 = cc in absurd (omega arith)
-step-no (no q) r e = cc
+-- the answer of a table whose first part gave o, and whose second goes on from the position where that ended: a refusal of the first;
+-- else a refusal or an answer of the second
+module _ {A : Type 0} (t : Syntax Name Block) (o : Out Name A) (g : A → Syntax Name Block) (at : ℕ) (bits : List Bool)
+    (q : read t at (drop at bits) ≡ andThen o (λ a. read (g a)) at (drop at bits)) where
+  pub first-no : (r : Refusal) → (f : Fault Name) × (o ≡ no f) × (r ≡ refusal (numberIn f)) → Refused r ≡ stepOf (read t at (drop at bits))
+  first-no r (f, e, x) = sym (ap stepOf q ∙ rw (e, x) refl)
 
--- the answer of a reader and one behind it, which goes on from the position where the first ended: a refusal of the first, then a
--- refusal and an answer of the second
-pub first-no : {A : Type 0} (o : Out A) (f : A → Reader Block) (s : List Bool) (r : Refusal) → o ≡ no r → Refused r ≡ stepOf (andThen o f s)
-first-no o f s r e = rw e
-
-module _ {A : Type 0} (at : ℕ) (bits : List Bool) (o : Out A) (f : A → Reader Block) (a : A) (n : ℕ) (e : o ≡ ok a n) where
-  pub second-no : (r : Refusal) → Refused r ≡ stepOf (f a (drop (at + n) bits)) → Refused r ≡ stepOf (andThen o f (drop at bits))
-  second-no r g = rw (e, drop-drop n at bits, step-no (f a (drop (at + n) bits)) r g)
-
-  pub second-is : (b : Block) (m : ℕ) → Is b m ≡ stepOf (f a (drop (at + n) bits)) → Is b (n + m) ≡ stepOf (andThen o f (drop at bits))
-  second-is b m g = rw (e, drop-drop n at bits, step-ok (f a (drop (at + n) bits)) b m g)
-
--- ---- the parts of a block
+  pub second-on : (a : A) (n : ℕ) → o ≡ ok a n → stepBehind n (stepOf (read (g a) (at + n) (drop (at + n) bits))) ≡ stepOf (read t at (drop at bits))
+  second-on a n e = shifted n (read (g a) (at + n) (drop (at + n) bits)) ∙ sym (ap stepOf q ∙ rw (e, drop-drop n at bits) refl)
 
 -- behind the zero bits
-module _ (l : ℕ) (b : Block) (s : List Bool) (v n : ℕ) (e : zeros (padding l) s ≡ ok v n) where
-  pub in-order : inOrder b ≡ true → Is b n ≡ stepOf (afterFields l b s)
-  in-order h = rw (e, h, add-zero n)
-
-  pub out-of-order : inOrder b ≡ false → Refused notInOrder ≡ stepOf (afterFields l b s)
-  out-of-order h = rw (e, h)
-
--- the content, by the block that its fields are
-pub content-is : (l : ℕ) (s : List Bool) → andThen (mapped (blockOf l) (fields (codings l) s)) (afterFields l) s ≡ content l s
-unfolding content
-content-is l s = go (fields (codings l) s)
-  where
-    go : (o : Out (List ℤ)) → andThen (mapped (blockOf l) o) (afterFields l) s ≡ andThen o (λ zs t. afterFields l (blockOf l zs) t) s
-    go (ok zs n) = refl
-    go (no r) = refl
+pub closed : (l : ℕ) (b : Block) (at : ℕ) (bits : List Bool) (n : ℕ) → read (zeroBits «ext_dm_alignment_zero_bit» (padding l)) at (drop at bits) ≡ ok tt n
+    → Is b n ≡ stepOf (read (afterFields l b) at (drop at bits))
+unfolding read
+closed l b at bits n e = sym (ap stepOf (read-closing l b at (drop at bits)) ∙ rw (e, add-zero n) refl)
 
 -- the body: 8 before 9
-module _ (n l : ℕ) (s : List Bool) where
-  pub body-unknown : known l ≡ false → Refused unknownLevel ≡ stepOf (body n l s)
-  unfolding body
-  body-unknown h = rw h
+module _ (start there n l at : ℕ) (s : List Bool) where
+  abbrev own : Unit {0} → Syntax Name Block
+  own z = must (lengthRule start (pos n) l) >>= λ own. content l
 
-  pub body-length : known l ≡ true → (n ≡ level l .bytes → ⊥) → Refused wrongLength ≡ stepOf (body n l s)
-  unfolding body
-  body-length h k = rw (h, ne-eqb n (level l .bytes) k)
+  pub body-unknown : known l ≡ false → refusedStep unknownLevel ≡ stepOf (read (body start there (pos n) (pos l)) at s)
+  body-unknown h = sym (ap stepOf (read-known own at s there l) ∙ rw h refl)
 
-  pub body-is : known l ≡ true → n ≡ level l .bytes → stepOf (content l s) ≡ stepOf (body n l s)
-  unfolding body
-  body-is h k = rw (h, eq-eqb n (level l .bytes) k)
+  known-body : known l ≡ true → read (body start there (pos n) (pos l)) at s ≡ cond (eqb n (level l .bytes)) (read (content l) at s) (no (breaks (lengthRule start (pos n) l)))
+  known-body h = read-known own at s there l ∙ ap (λ (b : Bool). cond b (read (own tt) at s) (no (breaks (knownRule there (pos l))))) h ∙ read-own-length (λ z. content l) at s start n l
 
-pub block-is : (s : List Bool) → andThen (ue mostZeros s) afterLength s ≡ block s
-unfolding block
-block-is s = refl
+  pub body-length : known l ≡ true → (n ≡ level l .bytes → ⊥) → refusedStep wrongLength ≡ stepOf (read (body start there (pos n) (pos l)) at s)
+  body-length h k = sym (ap stepOf (known-body h) ∙ rw (ne-eqb n (level l .bytes) k) refl)
 
--- a block takes few bits
-takes-content : (l : ℕ) → Takes 89 (content l)
-takes-content l s b n e =
-    takes-then 85 4 (λ t. mapped (blockOf l) (fields (codings l) t)) (afterFields l) (takes-level l) (takes-after-fields l) s b n (content-is l s ∙ e)
+  pub body-is : known l ≡ true → n ≡ level l .bytes → stepOf (read (content l) at s) ≡ stepOf (read (body start there (pos n) (pos l)) at s)
+  body-is h k = sym (ap stepOf (known-body h) ∙ rw (eq-eqb n (level l .bytes) k) refl)
 
-pub takes-body : (n l : ℕ) → Takes 89 (body n l)
-unfolding body
-takes-body n l =
-    takes-test 89 (λ s. cond (eqb n (level l .bytes)) (content l s) (no wrongLength)) (λ s. no unknownLevel)
-    (takes-test 89 (content l) (λ s. no wrongLength) (takes-content l) (takes-no 89 wrongLength) (eqb n (level l .bytes))) (takes-no 89 unknownLevel) (known l)
+-- the order of level 1, behind a whole block
+module _ (at : ℕ) (bits : List Bool) where
+  pub whole-no : (r : Refusal) → (f : Fault Name) × (read (wholeBlock at) at (drop at bits) ≡ no f) × (r ≡ refusal (numberIn f)) → Refused r ≡ stepOf (read block at (drop at bits))
+  whole-no = first-no block (read (wholeBlock at) at (drop at bits)) (λ b. orderRules at b >>= λ o. done b) at bits (read-whole at (drop at bits))
 
-pub takes-after-length : (n : ℕ) → Takes 97 (afterLength n)
-takes-after-length n = takes-then 8 89 (u 8) (body n) (takes-u 8) (takes-body n)
+  module _ (b : Block) (n : ℕ) (e : read (wholeBlock at) at (drop at bits) ≡ ok b n) where
+    ordered : stepBehind n (stepOf (read (orderRules at b >>= λ o. done b) (at + n) (drop (at + n) bits))) ≡ stepOf (read block at (drop at bits))
+    ordered = second-on block (read (wholeBlock at) at (drop at bits)) (λ b. orderRules at b >>= λ o. done b) at bits (read-whole at (drop at bits)) b n e
 
-pub takes-block : Takes 128 block
-takes-block s b n e = takes-then 31 97 (ue mostZeros) afterLength (takes-ue mostZeros) takes-after-length s b n (block-is s ∙ e)
+    pub in-order : inOrder b ≡ true → Is b n ≡ stepOf (read block at (drop at bits))
+    unfolding read
+    in-order h =
+        let o : read (orderRules at b >>= λ o. done b) (at + n) (drop (at + n) bits) ≡ ok b 0 = read-in-order (λ o. done b) (at + n) (drop (at + n) bits) at b h in
+        ap (Is b) (sym (add-zero n)) ∙ ap (λ (x : Out Name Block). stepBehind n (stepOf x)) (sym o) ∙ ordered
+
+    pub out-of-order : inOrder b ≡ false → refusedStep notInOrder ≡ stepOf (read block at (drop at bits))
+    out-of-order h =
+        let o = read-not-in-order (λ o. done b) (at + n) (drop (at + n) bits) at b h in
+        ap refusedStep (sym (o .1)) ∙ ap (λ (x : Out Name Block). stepBehind n (stepOf x)) (sym (o .2)) ∙ ordered

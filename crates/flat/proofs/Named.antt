@@ -12,17 +12,19 @@ use lib.IntN.{ℤ, pos, negsuc}
 use lib.ListN.{length, take, drop, getD, replicate, take-append-drop, List·getD-append, List·getD-map, length-map, length-drop}
 use lib.Pow.{pow-mono}
 use lib.Seq.{ext-getD, getD-at, take-add, take-all, drop-drop, drop-append-add}
-use Rattle.bits.specs.Bits.{bit}
-use Rattle.bits.specs.Coding.{Coding, unsigned, signed, widthOf, holds, holdAll}
+use Rattle.tree.specs.Bits.{bit}
+use Rattle.tree.specs.Coding.{Coding, unsigned, signed, widthOf, holds, holdAll}
+use Rattle.tree.proofs.Elements.{other-half}
 use Rattle.record.specs.declared.Block.{Block}
 use Rattle.record.specs.declared.Block.the-variants.{Nothing, Level1, Level2, Level5}
 use Rattle.record.specs.declared.Record.{Record}
 use Rattle.record.specs.Level.{codings, levelOf, valuesOf}
-use Rattle.record.specs.Valid.{mostBlocks, nowhere, blockIn, allBlocks, blocks, beyond, every, isNothing, inRange, valid, emptyRecord}
-use Rattle.record.specs.Made.{placeOf}
+use Rattle.record.specs.Made.{placeWith}
+use Rattle.record.specs.Blocks.{mostBlocks, emptyPlace, blockIn, allBlocks, blocks, beyond, inRange, emptyRecord}
 use Rattle.record.proofs.Laws.{and-left, and-right, and-both}
-use Rattle.record.proofs.Clauses.{valid-means}
-use Rattle.flat.specs.Flat.{flatLength, flatBlock, flatPlace, rowsOf, flatPlaces, flatHead, flat, same, sameNumber, unsignedIn, blockOf, namesBlock, placeNumbers, placeIn, each, always, namesHead, names, said, notValid, recordIn, typeOf, fitsType, Typed}
+use Rattle.valid.specs.Valid.{every, isNothing, valid}
+use Rattle.valid.proofs.Clauses.{valid-means}
+use Rattle.flat.specs.Flat.{flatLength, flatBlock, flatPlace, rowsOf, flatPlaces, flatHead, flat, sameRow, sameNumber, unsignedIn, blockSaid, namesBlock, placeNumbers, placeIn, each, always, namesHead, names, said, unnamedRecord, recordIn, typeOf, fitsType, FitsTypes}
 use Rattle.flat.proofs.Rows.{same-refl, same-true}
 use Rattle.flat.proofs.Places.{length-places, places-at, length-each, rows-snoc}
 
@@ -49,7 +51,7 @@ always-is test (suc n) h = rw (always-is test n (λ i l. h i (omega arith)), h n
 
 -- ---- a block
 
-pub block-named : (b : Block) → fitsType b ≡ true → blockOf (flatBlock b) ≡ b
+pub block-named : (b : Block) → fitsType b ≡ true → blockSaid (flatBlock b) ≡ b
 unfolding holdAll
 block-named Nothing h = refl
 block-named (Level1 min max avg) h =
@@ -85,22 +87,22 @@ every-at test [] i d h l = absurd (not-suc-le-zero l)
 every-at test (b ∷ bs) zero d h l = and-left (test b) (every test bs) h
 every-at test (b ∷ bs) (suc i) d h l = every-at test bs i d (and-right (test b) (every test bs) h) (le-of-suc-le-suc l)
 
-module _ (r : Record) (typed : Typed r) where
+module _ (r : Record) (typed : FitsTypes r) where
   abbrev blockOfPlace : ℕ → Block
-  blockOfPlace i = blockIn (getD (r .places) i nowhere)
+  blockOfPlace i = blockIn (getD (r .places) i emptyPlace)
 
   own : (i : ℕ) → i < mostBlocks → placeNumbers (flat r) i ≡ flatBlock (blockOfPlace i)
   unfolding flat
   own i h = ap (take 8) (drop-append-add (flatHead (r .refresh) (r .count)) (flatPlaces (r .places)) (8 * i)) ∙ places-at (r .places) i (omega (arith, typed .places))
 
-  own-block : (i : ℕ) → i < mostBlocks → blockOf (placeNumbers (flat r) i) ≡ blockOfPlace i
+  own-block : (i : ℕ) → i < mostBlocks → blockSaid (placeNumbers (flat r) i) ≡ blockOfPlace i
   own-block i h =
       let n : i < length (allBlocks r) = omega (arith, typed .places, length-map (r .places) blockIn) in
-      let f : fitsType (blockOfPlace i) ≡ true = ap fitsType (sym (List·getD-map blockIn (r .places) i nowhere)) ∙ every-at fitsType (allBlocks r) i Nothing (typed .fields) n in
-      ap blockOf (own i h) ∙ block-named (blockOfPlace i) f
+      let f : fitsType (blockOfPlace i) ≡ true = ap fitsType (sym (List·getD-map blockIn (r .places) i emptyPlace)) ∙ every-at fitsType (allBlocks r) i Nothing (typed .fields) n in
+      ap blockSaid (own i h) ∙ block-named (blockOfPlace i) f
 
   own-places : each (placeIn (flat r)) mostBlocks ≡ r .places
-  own-places = each-is (placeIn (flat r)) (r .places) nowhere mostBlocks (typed .places) (λ i h. ap placeOf (own-block i h))
+  own-places = each-is (placeIn (flat r)) (r .places) emptyPlace mostBlocks (typed .places) (λ i h. ap placeWith (own-block i h))
 
   flag-own : (t : Bool) → sameNumber (pos (bit t)) (pos 1) ≡ t
   flag-own true = refl
@@ -122,12 +124,12 @@ module _ (r : Record) (typed : Typed r) where
   own-names =
       and-both (namesHead (flat r)) (always (λ i. namesBlock (placeNumbers (flat r) i)) mostBlocks) own-head
       (always-is (λ i. namesBlock (placeNumbers (flat r) i)) mostBlocks
-      (λ i h. ap (same (placeNumbers (flat r) i)) (ap flatBlock (own-block i h) ∙ sym (own i h)) ∙ same-refl (placeNumbers (flat r) i)))
+      (λ i h. ap (sameRow (placeNumbers (flat r) i)) (ap flatBlock (own-block i h) ∙ sym (own i h)) ∙ same-refl (placeNumbers (flat r) i)))
 
   -- a record's own numbers name it
   pub flat-names : recordIn (flat r) ≡ r
   unfolding recordIn
-  flat-names = ap (λ (t : Bool). cond t (said (flat r)) notValid) own-names ∙ own-said
+  flat-names = ap (λ (t : Bool). cond t (said (flat r)) unnamedRecord) own-names ∙ own-said
 
 -- ---- and no other numbers name it
 
@@ -137,12 +139,12 @@ places-are l zero h = refl
 places-are l (suc n) h =
     let e : 8 * suc n ≡ 8 * n + 8 = omega arith in
     let first = places-are l n (and-left (always (λ i. namesBlock (placeNumbers l i)) n) (namesBlock (placeNumbers l n)) h) in
-    let last = same-true (placeNumbers l n) (flatBlock (blockOf (placeNumbers l n))) (and-right (always (λ i. namesBlock (placeNumbers l i)) n) (namesBlock (placeNumbers l n)) h) in
+    let last = same-true (placeNumbers l n) (flatBlock (blockSaid (placeNumbers l n))) (and-right (always (λ i. namesBlock (placeNumbers l i)) n) (namesBlock (placeNumbers l n)) h) in
     ap (λ (k : ℕ). take k (drop 2 l)) e ∙ take-add (8 * n) 8 (drop 2 l)
     ∙ ap (λ (a : List ℤ). a ++ take 8 (drop (8 * n) (drop 2 l))) first
     ∙ ap (λ (a : List ℤ). flatPlaces (each (placeIn l) n) ++ take 8 a) (drop-drop (8 * n) 2 l)
     ∙ ap (λ (a : List ℤ). flatPlaces (each (placeIn l) n) ++ a) last
-    ∙ sym (rows-snoc flatPlace 8 nowhere (each (placeIn l) n) (placeIn l n))
+    ∙ sym (rows-snoc flatPlace 8 emptyPlace (each (placeIn l) n) (placeIn l n))
 
 module _ (l : List ℤ) (whole : length l ≡ flatLength) (named : names l ≡ true) where
   said-flat : l ≡ flat (said l)
@@ -156,7 +158,7 @@ module _ (l : List ℤ) (whole : length l ≡ flatLength) (named : names l ≡ t
   -- numbers that name a record are its own
   pub named-is-flat : l ≡ flat (recordIn l)
   unfolding recordIn
-  named-is-flat = said-flat ∙ ap flat (sym (ap (λ (t : Bool). cond t (said l) notValid) named))
+  named-is-flat = said-flat ∙ ap flat (sym (ap (λ (t : Bool). cond t (said l) unnamedRecord) named))
 
 -- exactly one row names a record
 pub one-row : (l m : List ℤ) → length l ≡ flatLength → length m ≡ flatLength → names l ≡ true → names m ≡ true → recordIn l ≡ recordIn m → l ≡ m
@@ -164,8 +166,8 @@ one-row l m p q h k e = named-is-flat l p h ∙ ap flat e ∙ sym (named-is-flat
 
 -- numbers that name none are treated as a record that is not valid
 pub unnamed-is-not-valid : (l : List ℤ) → names l ≡ false → valid (recordIn l) ≡ false
-unfolding recordIn notValid valid every
-unnamed-is-not-valid l h = ap (λ (t : Bool). valid (cond t (said l) notValid)) h
+unfolding recordIn unnamedRecord valid every
+unnamed-is-not-valid l h = ap (λ (t : Bool). valid (cond t (said l) unnamedRecord)) h
 
 -- the empty record is all zeros
 pub empty-is-zeros : flat emptyRecord ≡ replicate flatLength (pos 0)
@@ -180,10 +182,10 @@ length-flat r e = omega (arith, length-places (r .places))
 
 -- what numbers name has its 18 places
 pub length-in : (l : List ℤ) → length (recordIn l .places) ≡ mostBlocks
-unfolding recordIn said notValid
+unfolding recordIn said unnamedRecord
 length-in l = go (names l)
   where
-    go : (t : Bool) → length (cond t (said l) notValid .places) ≡ mostBlocks
+    go : (t : Bool) → length (cond t (said l) unnamedRecord .places) ≡ mostBlocks
     go true = length-each (placeIn l) mostBlocks
     go false = refl
 
@@ -197,7 +199,7 @@ narrow-holds : (c : Coding) (z : ℤ) → widthOf c ≤ 16 → holds c z ≡ tru
 narrow-holds (unsigned n) (pos v) h e = lt-ltb v 65536 (omega (arith, ltb-true v (2 ^ n) e, pow-mono {j = 16} h))
 narrow-holds (unsigned n) (negsuc v) h e = e
 narrow-holds (signed n) (pos v) h e = lt-ltb v 32768 (omega (arith, ltb-true v (2 ^ (n - 1)) e, pow-mono {i = n - 1} {j = 15} (omega arith)))
-narrow-holds (signed n) (negsuc v) h e = lt-ltb v 32768 (omega (arith, ltb-true v (2 ^ (n - 1)) e, pow-mono {i = n - 1} {j = 15} (omega arith)))
+narrow-holds (signed n) (negsuc v) h e = lt-ltb v 32768 (omega (arith, ltb-true v (2 ^ n - 2 ^ (n - 1)) e, other-half n, pow-mono {i = n - 1} {j = 15} (omega arith)))
 
 narrow-all : (cs : List Coding) (zs : List ℤ) → Narrow cs → holdAll cs zs ≡ true → holdAll (map typeOf cs) zs ≡ true
 unfolding holdAll
@@ -234,7 +236,7 @@ every-append f [] cs h k = k
 every-append f (b ∷ bs) cs h k = and-both (f b) (every f (bs ++ cs)) (and-left (f b) (every f bs) h) (every-append f bs cs (and-right (f b) (every f bs) h) k)
 
 -- so its own numbers name it
-pub valid-is-typed : (r : Record) → length (r .places) ≡ mostBlocks → valid r ≡ true → Typed r
+pub valid-is-typed : (r : Record) → length (r .places) ≡ mostBlocks → valid r ≡ true → FitsTypes r
 valid-is-typed r e h =
     let v = valid-means r h in
     record {

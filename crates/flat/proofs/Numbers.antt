@@ -11,7 +11,7 @@ use lib.Signed.{leZ, nonNeg, mag}
 use mir.Syntax.{Width, w16, w32}
 use mir.Val.{toZ, ofZ, bits, Fits, SFits}
 use mir.ValLaws.{toZ-ofZ, toZ-pos}
-use Rattle.bits.specs.Coding.{signed, holds}
+use Rattle.tree.specs.Coding.{signed, holds}
 use Rattle.flat.specs.Flat.{unsignedIn, signedIn}
 
 module _ (w : Width) (z : ℤ) (f : SFits w32 z) where

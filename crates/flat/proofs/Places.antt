@@ -14,14 +14,14 @@ use mir.Facts.{sfits-lit}
 use mir.Syntax.{w32}
 use mir.Val.{toZ, ofZ, boolByte, SFits}
 use mir.ValLaws.{toZ-pos}
-use Rattle.bits.specs.Bits.{bit}
+use Rattle.tree.specs.Bits.{bit}
 use Rattle.record.specs.declared.Block.{Block}
 use Rattle.record.specs.declared.Block.the-variants.{Nothing, Level1, Level2, Level5}
 use Rattle.record.specs.declared.Place.{Place}
 use Rattle.record.specs.declared.Record.{Record}
-use Rattle.record.specs.Valid.{mostBlocks, nowhere, blockIn}
-use Rattle.record.specs.Made.{placeOf}
-use Rattle.flat.specs.Flat.{placeLength, flatBlock, rowsOf, flatPlace, blockOf, notValid, names, said, recordIn, flatPlaces, flat, flatLength, same, placeNumbers, placeIn, each, always, namesHead, namesBlock, sameNumber, numberAt, unsignedIn}
+use Rattle.record.specs.Made.{placeWith}
+use Rattle.record.specs.Blocks.{mostBlocks, emptyPlace, blockIn}
+use Rattle.flat.specs.Flat.{placeLength, flatBlock, rowsOf, flatPlace, blockSaid, unnamedRecord, names, said, recordIn, flatPlaces, flat, flatLength, sameRow, placeNumbers, placeIn, each, always, namesHead, namesBlock, sameNumber, numberAt, unsignedIn}
 use Rattle.flat.proofs.Rows.{same-bits, paste-more}
 
 -- ---- eight numbers for each place
@@ -64,10 +64,10 @@ module _ {A : Type 0} (f : A → List ℤ) (n : ℕ) (d : A) where
   rows-snoc (y ∷ l) x = ap (λ (r : List ℤ). f y ++ r) (rows-snoc l x) ∙ sym (append-assoc (f y) (rowsOf f l) (f x))
 
 pub length-places : (ps : List Place) → length (flatPlaces ps) ≡ placeLength * length ps
-length-places ps = length-rows flatPlace placeLength nowhere ps (λ i h. length-flat-place (getD ps i nowhere))
+length-places ps = length-rows flatPlace placeLength emptyPlace ps (λ i h. length-flat-place (getD ps i emptyPlace))
 
-pub places-at : (ps : List Place) (i : ℕ) → i < length ps → take placeLength (drop (placeLength * i) (flatPlaces ps)) ≡ flatBlock (blockIn (getD ps i nowhere))
-places-at ps i h = rows-at flatPlace placeLength nowhere ps i h (λ i h. length-flat-place (getD ps i nowhere))
+pub places-at : (ps : List Place) (i : ℕ) → i < length ps → take placeLength (drop (placeLength * i) (flatPlaces ps)) ≡ flatBlock (blockIn (getD ps i emptyPlace))
+places-at ps i h = rows-at flatPlace placeLength emptyPlace ps i h (λ i h. length-flat-place (getD ps i emptyPlace))
 
 -- ---- a part of a part
 
@@ -98,17 +98,17 @@ each-more f b d i h =
     ∙ sym (append-snoc (each f i) (f i) (drop (suc i) b))
 
 abbrev pub readTo : List ℤ → ℕ → Record
-readTo l i = record { refresh = sameNumber (numberAt l 0) (pos 1); count = unsignedIn 8 (numberAt l 1); places = each (placeIn l) i ++ drop i (replicate mostBlocks nowhere) }
+readTo l i = record { refresh = sameNumber (numberAt l 0) (pos 1); count = unsignedIn 8 (numberAt l 1); places = each (placeIn l) i ++ drop i (replicate mostBlocks emptyPlace) }
 
 abbrev pub namedTo : List ℤ → ℕ → Bool
 namedTo l i = namesHead l && always (λ j. namesBlock (placeNumbers l j)) i
 
-pub read-more : (l : List ℤ) (i : ℕ) (r : Record) (b : Block) → i < mostBlocks → r ≡ readTo l i → b ≡ blockOf (placeNumbers l i)
-    → record { refresh = r .refresh; count = r .count; places = set (r .places) i (placeOf b) } ≡ readTo l (i + 1)
+pub read-more : (l : List ℤ) (i : ℕ) (r : Record) (b : Block) → i < mostBlocks → r ≡ readTo l i → b ≡ blockSaid (placeNumbers l i)
+    → record { refresh = r .refresh; count = r .count; places = set (r .places) i (placeWith b) } ≡ readTo l (i + 1)
 read-more l i r b h e f =
-    ap (λ (q : Record). record { refresh = q .refresh; count = q .count; places = set (q .places) i (placeOf b) }) e
-    ∙ ap (λ (x : Block). record { refresh = readTo l i .refresh; count = readTo l i .count; places = set (readTo l i .places) i (placeOf x) }) f
-    ∙ ap (λ (ps : List Place). record { refresh = readTo l i .refresh; count = readTo l i .count; places = ps }) (each-more (placeIn l) (replicate mostBlocks nowhere) nowhere i h)
+    ap (λ (q : Record). record { refresh = q .refresh; count = q .count; places = set (q .places) i (placeWith b) }) e
+    ∙ ap (λ (x : Block). record { refresh = readTo l i .refresh; count = readTo l i .count; places = set (readTo l i .places) i (placeWith x) }) f
+    ∙ ap (λ (ps : List Place). record { refresh = readTo l i .refresh; count = readTo l i .count; places = ps }) (each-more (placeIn l) (replicate mostBlocks emptyPlace) emptyPlace i h)
     ∙ ap (readTo l) (sym (add-one i))
 
 pub named-more : (l : List ℤ) (i : ℕ) (t u : Bool) → t ≡ namedTo l i → u ≡ namesBlock (placeNumbers l i) → t && u ≡ namedTo l (i + 1)
@@ -121,11 +121,11 @@ pub read-named : (l : List ℤ) (r : Record) → r ≡ readTo l mostBlocks → n
 unfolding recordIn names said
 read-named l r e h =
     e ∙ ap (λ (ps : List Place). record { refresh = readTo l 0 .refresh; count = readTo l 0 .count; places = ps }) (append-nil (each (placeIn l) mostBlocks))
-    ∙ sym (ap (λ (t : Bool). cond t (said l) notValid) h)
+    ∙ sym (ap (λ (t : Bool). cond t (said l) unnamedRecord) h)
 
-pub not-named : (l : List ℤ) → namedTo l mostBlocks ≡ false → notValid ≡ recordIn l
+pub not-named : (l : List ℤ) → namedTo l mostBlocks ≡ false → unnamedRecord ≡ recordIn l
 unfolding recordIn names
-not-named l h = sym (ap (λ (t : Bool). cond t (said l) notValid) h)
+not-named l h = sym (ap (λ (t : Bool). cond t (said l) unnamedRecord) h)
 
 -- ---- the flag and the count
 
@@ -147,7 +147,7 @@ module _ (l : List ℤ) (x y : ℤ) (f : SFits w32 x) (g : SFits w32 y) (long : 
   by-flag false = same-bits x (pos 0) f (sfits-lit tt)
 
   pub head-is : (count : ℕ) → count < 256 → count ≡ unsignedIn 8 y → eqb (ofZ w32 x) (boolByte (eqb (ofZ w32 x) 1)) && eqb (ofZ w32 y) count ≡ namesHead l
-  unfolding same
+  unfolding sameRow
   head-is count small e =
       let a : eqb (ofZ w32 x) (boolByte (eqb (ofZ w32 x) 1)) ≡ sameNumber (numberAt l 0) (pos (bit (sameNumber (numberAt l 0) (pos 1)))) =
       by-flag (eqb (ofZ w32 x) 1) ∙ ap (λ (t : Bool). sameNumber x (pos (bit t))) flag-is ∙ ap (λ (z : ℤ). sameNumber z (pos (bit (sameNumber (numberAt l 0) (pos 1))))) (sym first) in

@@ -13,7 +13,7 @@ use mir.Syntax.{w16, w32}
 use mir.Val.{toZ, ofZ, SFits}
 use mir.ValLaws.{toZ-ofZ}
 use Rattle.record.proofs.Laws.{same-test, and-left, and-right}
-use Rattle.flat.specs.Flat.{sameNumber, same, unsignedIn, signedIn}
+use Rattle.flat.specs.Flat.{sameNumber, sameRow, unsignedIn, signedIn}
 
 -- ---- equal numbers
 
@@ -50,28 +50,28 @@ weight-is z r f g e = toZ-ofZ w16 r g ∙ e ∙ ap (signedIn 16) (toZ-ofZ w32 z 
 
 -- ---- equal rows
 
-pub same-refl : (l : List ℤ) → same l l ≡ true
-unfolding same
+pub same-refl : (l : List ℤ) → sameRow l l ≡ true
+unfolding sameRow
 same-refl [] = refl
 same-refl (x ∷ xs) = rw (same-number-refl x, same-refl xs)
 
-pub same-true : (l m : List ℤ) → same l m ≡ true → l ≡ m
-unfolding same
+pub same-true : (l m : List ℤ) → sameRow l m ≡ true → l ≡ m
+unfolding sameRow
 same-true [] [] h = refl
 same-true [] (y ∷ ys) h = let z : _≡_ {A = ℕ} 0 1 = cc in absurd (omega arith)
 same-true (x ∷ xs) [] h = let z : _≡_ {A = ℕ} 0 1 = cc in absurd (omega arith)
 same-true (x ∷ xs) (y ∷ ys) h =
-    let e = same-number-true x y (and-left (sameNumber x y) (same xs ys) h) in
-    let f = same-true xs ys (and-right (sameNumber x y) (same xs ys) h) in
+    let e = same-number-true x y (and-left (sameNumber x y) (sameRow xs ys) h) in
+    let f = same-true xs ys (and-right (sameNumber x y) (sameRow xs ys) h) in
     cc
 
-pub same-snoc : (l m : List ℤ) (x y : ℤ) → length l ≡ length m → same (l ++ (x ∷ [])) (m ++ (y ∷ [])) ≡ same l m && sameNumber x y
-unfolding same
+pub same-snoc : (l m : List ℤ) (x y : ℤ) → length l ≡ length m → sameRow (l ++ (x ∷ [])) (m ++ (y ∷ [])) ≡ sameRow l m && sameNumber x y
+unfolding sameRow
 same-snoc [] [] x y e = and-true (sameNumber x y)
 same-snoc [] (b ∷ m) x y e = absurd (omega (arith, e))
 same-snoc (a ∷ l) [] x y e = absurd (omega (arith, e))
 same-snoc (a ∷ l) (b ∷ m) x y e =
-    ap (λ (t : Bool). sameNumber a b && t) (same-snoc l m x y (omega (arith, e))) ∙ sym (and-assoc (sameNumber a b) (same l m) (sameNumber x y))
+    ap (λ (t : Bool). sameNumber a b && t) (same-snoc l m x y (omega (arith, e))) ∙ sym (and-assoc (sameNumber a b) (sameRow l m) (sameNumber x y))
 
 -- ---- pastes
 

@@ -6,15 +6,16 @@ use mathlib.Core.Bool.{Bool, true, false, cond, _&&_}
 use lib.Dec.{eqb, ltb}
 use lib.IntN.{ℤ, pos, negsuc}
 use lib.ListN.{length, take, drop, getD, replicate}
-use Rattle.bits.specs.Bits.{bit}
-use Rattle.bits.specs.Coding.{Coding, unsigned, signed, holds, holdAll}
+use Rattle.tree.specs.Bits.{bit}
+use Rattle.tree.specs.Coding.{Coding, unsigned, signed, holds, holdAll}
 use Rattle.record.specs.declared.Block.{Block}
 use Rattle.record.specs.declared.Block.the-variants.{Nothing, Level1, Level2, Level5}
 use Rattle.record.specs.declared.Place.{Place}
 use Rattle.record.specs.declared.Record.{Record}
 use Rattle.record.specs.Level.{codings, levelOf, valuesOf}
-use Rattle.record.specs.Valid.{mostBlocks, nowhere, allBlocks, every}
-use Rattle.record.specs.Made.{placeOf}
+use Rattle.record.specs.Made.{placeWith}
+use Rattle.record.specs.Blocks.{mostBlocks, emptyPlace, allBlocks}
+use Rattle.valid.specs.Valid.{every}
 
 -- ---- from a record to numbers
 
@@ -65,11 +66,11 @@ sameNumber (negsuc a) (pos b) = false
 sameNumber (negsuc a) (negsuc b) = eqb a b
 
 -- equal, number by number
-unfoldable pub same : List ℤ → List ℤ → Bool
-same [] [] = true
-same [] (y ∷ ys) = false
-same (x ∷ xs) [] = false
-same (x ∷ xs) (y ∷ ys) = sameNumber x y && same xs ys
+unfoldable pub sameRow : List ℤ → List ℤ → Bool
+sameRow [] [] = true
+sameRow [] (y ∷ ys) = false
+sameRow (x ∷ xs) [] = false
+sameRow (x ∷ xs) (y ∷ ys) = sameNumber x y && sameRow xs ys
 
 -- a number, where n bits hold it, and else 0
 abbrev pub unsignedIn : ℕ → ℤ → ℕ
@@ -85,19 +86,19 @@ abbrev pub fieldAt : List ℤ → ℕ → ℕ
 fieldAt l i = unsignedIn 16 (numberAt l i)
 
 -- what eight numbers say by their level, each field as far as its type holds it
-abbrev pub blockOf : List ℤ → Block
-blockOf l =
+abbrev pub blockSaid : List ℤ → Block
+blockSaid l =
     cond (sameNumber (numberAt l 0) (pos 1)) (Level1 (fieldAt l 1) (fieldAt l 2) (fieldAt l 3))
     (cond (sameNumber (numberAt l 0) (pos 2)) (Level2 (fieldAt l 1) (fieldAt l 2) (fieldAt l 3) (fieldAt l 4) (fieldAt l 5) (fieldAt l 6) (signedIn 16 (numberAt l 7)))
     (cond (sameNumber (numberAt l 0) (pos 5)) (Level5 (fieldAt l 1) (fieldAt l 2) (fieldAt l 3) (fieldAt l 4)) Nothing))
 
 -- eight numbers name a block if they are its own
 abbrev pub namesBlock : List ℤ → Bool
-namesBlock l = same l (flatBlock (blockOf l))
+namesBlock l = sameRow l (flatBlock (blockSaid l))
 
 -- the block that eight numbers name, or nothing
 unfoldable pub blockNamed : List ℤ → Block
-blockNamed l = cond (namesBlock l) (blockOf l) Nothing
+blockNamed l = cond (namesBlock l) (blockSaid l) Nothing
 
 -- the eight numbers of the place i
 abbrev pub placeNumbers : List ℤ → ℕ → List ℤ
@@ -115,7 +116,7 @@ always test (suc n) = always test n && test n
 
 -- what the place i holds
 abbrev pub placeIn : List ℤ → ℕ → Place
-placeIn l i = placeOf (blockOf (placeNumbers l i))
+placeIn l i = placeWith (blockSaid (placeNumbers l i))
 
 -- what the numbers say, each as far as its type holds it
 unfoldable pub said : List ℤ → Record
@@ -123,19 +124,19 @@ said l = record { refresh = sameNumber (numberAt l 0) (pos 1); count = unsignedI
 
 -- the flag and the count are their own
 abbrev pub namesHead : List ℤ → Bool
-namesHead l = same (take 2 l) (flatHead (sameNumber (numberAt l 0) (pos 1)) (unsignedIn 8 (numberAt l 1)))
+namesHead l = sameRow (take 2 l) (flatHead (sameNumber (numberAt l 0) (pos 1)) (unsignedIn 8 (numberAt l 1)))
 
 -- numbers name a record if they are its own: each place's, and the flag and the count
 unfoldable pub names : List ℤ → Bool
 names l = namesHead l && always (λ i. namesBlock (placeNumbers l i)) mostBlocks
 
 -- a record that is not valid: flag 0 with count 1
-unfoldable pub notValid : Record
-notValid = record { refresh = false; count = 1; places = replicate mostBlocks nowhere }
+unfoldable pub unnamedRecord : Record
+unnamedRecord = record { refresh = false; count = 1; places = replicate mostBlocks emptyPlace }
 
 -- the record that numbers name; numbers that name none are treated as a record that is not valid
 unfoldable pub recordIn : List ℤ → Record
-recordIn l = cond (names l) (said l) notValid
+recordIn l = cond (names l) (said l) unnamedRecord
 
 -- ---- the records that numbers of 32 bits can name: each field fits its type
 
@@ -149,7 +150,7 @@ abbrev pub fitsType : Block → Bool
 fitsType b = holdAll (map typeOf (codings (levelOf b))) (valuesOf b)
 
 -- every Record of a program is so
-pub record Typed (r : Record) : Type 0 where
+pub record FitsTypes (r : Record) : Type 0 where
   pub places : length (r .places) ≡ mostBlocks
   pub count : r .count < 256
   pub fields : every fitsType (allBlocks r) ≡ true

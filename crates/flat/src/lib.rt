@@ -6,15 +6,15 @@ ghost use mathlib.Core.Path.{_≡_};
 ghost use Prim.Native.Nat.{_+_, _*_, _≤_};
 ghost use lib.ListN.{length, take, drop};
 ghost use lib.Seq.{paste};
-ghost use Rattle.record.specs.Valid.{mostBlocks};
-ghost use Rattle.flat.specs.Flat.{placeLength, flatLength, flatBlock, flatPlaces, flat, same, unsignedIn, signedIn, blockOf, blockNamed, notValid, recordIn};
+ghost use Rattle.record.specs.Blocks.{mostBlocks};
+ghost use Rattle.flat.specs.Flat.{placeLength, flatLength, flatBlock, flatPlaces, flat, sameRow, unsignedIn, signedIn, blockSaid, blockNamed, unnamedRecord, recordIn};
 
-// How many numbers a record has, and a place.
-pub const NUMBERS: usize = 146;
-
+// How many numbers a place has, and a record: the flag, the count and its places.
 pub const PLACE: usize = 8;
 
 const BLOCKS: usize = Record::BLOCKS as usize;
+
+pub const NUMBERS: usize = 2 + PLACE * BLOCKS;
 
 // The number where a u8 holds it, and else 0.
 fn byte(number: i32) -> u8
@@ -101,7 +101,7 @@ fn eight_of(block: Block) -> [i32; 8]
 
 // What eight numbers say by their level, each field as far as its type holds it.
 fn block_of(eight: [i32; 8]) -> Block
-    ensures { λ r. ⌜ r ≡ blockOf eight ⌝ }
+    ensures { λ r. ⌜ r ≡ blockSaid eight ⌝ }
 {
     let level = eight[0];
     if level == 1 {
@@ -134,7 +134,7 @@ fn block_of(eight: [i32; 8]) -> Block
 }
 
 fn are_equal(a: [i32; 8], b: [i32; 8]) -> bool
-    ensures { λ r. ⌜ r ≡ same a b ⌝ }
+    ensures { λ r. ⌜ r ≡ sameRow a b ⌝ }
 {
     let mut equal = true;
     let mut k: usize = 0;
@@ -213,7 +213,7 @@ pub fn put_record(row: &mut [i32], at: usize, r: Record)
 
 // A record that is not valid.
 fn not_valid() -> Record
-    ensures { λ r. ⌜ r ≡ notValid ⌝ }
+    ensures { λ r. ⌜ r ≡ unnamedRecord ⌝ }
 {
     let mut r = Record::empty();
     r.count = 1;

@@ -6,7 +6,7 @@ use mathlib.Core.Option.{Option, none, some}
 use Prim.Native.Nat.{ℕ, suc, _≤_}
 use native.Mathlib.Omega.{arith}
 use lib.ListN.{length, length-map}
-use Rattle.keyed.specs.Keyed.{orElse, Compared, less, same, more, Order, orSame, among, different, insertBy, insert, join, heldAtBy, heldAt, Rising}
+use Rattle.keyed.specs.Keyed.{orElse, Compared, less, same, greater, Order, orSame, amongKeys, different, insertBy, insert, join, heldAtBy, heldAt, Rising}
 use Rattle.keyed.proofs.Laws.{join-rising, held-in-join, same-points, held-above, held-insert, insert-rising, above-trans}
 use Rattle.keyed.proofs.Mapped.{rising-to}
 
@@ -32,11 +32,11 @@ module _ {K P : Type 0} (O : Order K) (key : P → K) where
   has-by : (k : K) (x : P) (r : Option P) (t : Compared (O .Before) k (key x)) → has (heldAtBy O key x r t) ≡ orSame O (has r) t
   has-by k x r (less _) = refl
   has-by k x r (same _) = refl
-  has-by k x r (more _) = refl
+  has-by k x r (greater _) = refl
 
   -- a list holds a key exactly if it is among its keys
-  pub held-is-among : (k : K) (l : List P) → has (heldAt O key k l) ≡ among O k (map key l)
-  unfolding among
+  pub held-is-among : (k : K) (l : List P) → has (heldAt O key k l) ≡ amongKeys O k (map key l)
+  unfolding amongKeys
   held-is-among k [] = refl
   held-is-among k (x ∷ xs) = has-by k x (heldAt O key k xs) (O .compare k (key x)) ∙ ap (λ (b : Bool). orSame O b (O .compare k (key x))) (held-is-among k xs)
 
@@ -54,7 +54,7 @@ module _ {K P : Type 0} (O : Order K) (key : P → K) where
   length-by p x xs (less h) r e =
       ap (λ (o : Option P). longer (has o) (suc (length xs))) (sym (held-above O key (key p) xs (above-trans O key xs h (r .0))))
   length-by p x xs (same h) r e = refl
-  length-by p x xs (more h) r e = ap suc e ∙ longer-suc (has (heldAt O key (key p) xs)) (length xs)
+  length-by p x xs (greater h) r e = ap suc e ∙ longer-suc (has (heldAt O key (key p) xs)) (length xs)
 
   insert-length : (p : P) (l : List P) → Rising O key l → length (insert O key p l) ≡ longer (has (heldAt O key (key p) l)) (length l)
   insert-length p [] r = refl
@@ -76,14 +76,14 @@ module _ {K : Type 0} (O : Order K) where
   kept-by : (j k : K) (r : Option K) (b : Bool) (t : Compared (O .Before) j k) → has r ≡ b → has (heldAtBy O self k r t) ≡ orSame O b t
   kept-by j k r b (less _) h = h
   kept-by j k r b (same _) h = refl
-  kept-by j k r b (more _) h = h
+  kept-by j k r b (greater _) h = h
 
   -- the same keys are among both
-  sorted-holds : (j : K) (ks : List K) → has (heldAt O self j (sorted ks)) ≡ among O j ks
-  unfolding among
+  sorted-holds : (j : K) (ks : List K) → has (heldAt O self j (sorted ks)) ≡ amongKeys O j ks
+  unfolding amongKeys
   sorted-holds j [] = refl
   sorted-holds j (k ∷ ks) =
-      ap has (held-insert O self j k (sorted ks) (sorted-rising ks)) ∙ kept-by j k (heldAt O self j (sorted ks)) (among O j ks) (O .compare j k) (sorted-holds j ks)
+      ap has (held-insert O self j k (sorted ks) (sorted-rising ks)) ∙ kept-by j k (heldAt O self j (sorted ks)) (amongKeys O j ks) (O .compare j k) (sorted-holds j ks)
 
   -- and there are as many
   sorted-length : (ks : List K) → length (sorted ks) ≡ different O ks
@@ -92,20 +92,20 @@ module _ {K : Type 0} (O : Order K) where
   sorted-length (k ∷ ks) =
       insert-length O self k (sorted ks) (sorted-rising ks)
       ∙ ap (λ (b : Bool). cond b (length (sorted ks)) (suc (length (sorted ks)))) (sorted-holds k ks)
-      ∙ ap (λ (n : ℕ). cond (among O k ks) n (suc n)) (sorted-length ks)
+      ∙ ap (λ (n : ℕ). cond (amongKeys O k ks) n (suc n)) (sorted-length ks)
 
   -- what a list of keys holds at a key is that key
   own-by : (j k : K) (t : Compared (O .Before) j k) (r : Option K) → r ≡ cond (has r) (some j) none → heldAtBy O self k r t ≡ cond (has (heldAtBy O self k r t)) (some j) none
   own-by j k (less _) r h = h
   own-by j k (same e) r h = ap some (sym e)
-  own-by j k (more _) r h = h
+  own-by j k (greater _) r h = h
 
   own-key : (j : K) (ks : List K) → heldAt O self j ks ≡ cond (has (heldAt O self j ks)) (some j) none
   own-key j [] = refl
   own-key j (k ∷ ks) = own-by j k (O .compare j k) (heldAt O self j ks) (own-key j ks)
 
   -- a rising list of keys has as many as are different in any list that has the same among it
-  pub as-many : (l ks : List K) → Rising O self l → ((j : K) → has (heldAt O self j l) ≡ among O j ks) → length l ≡ different O ks
+  pub as-many : (l ks : List K) → Rising O self l → ((j : K) → has (heldAt O self j l) ≡ amongKeys O j ks) → length l ≡ different O ks
   as-many l ks r h =
       ap length (same-points O self l (sorted ks) r (sorted-rising ks)
       (λ j. own-key j l ∙ ap (λ (b : Bool). cond b (some j) none) (h j ∙ sym (sorted-holds j ks)) ∙ sym (own-key j (sorted ks))))
@@ -114,12 +114,12 @@ module _ {K : Type 0} (O : Order K) where
   among-by : (k j : K) (b c : Bool) (t : Compared (O .Before) k j) → orSame O (either b c) t ≡ either (orSame O b t) c
   among-by k j b c (less _) = refl
   among-by k j b c (same _) = refl
-  among-by k j b c (more _) = refl
+  among-by k j b c (greater _) = refl
 
-  pub among-append : (k : K) (js ks : List K) → among O k (js ++ ks) ≡ either (among O k js) (among O k ks)
-  unfolding among
+  pub among-append : (k : K) (js ks : List K) → amongKeys O k (js ++ ks) ≡ either (amongKeys O k js) (amongKeys O k ks)
+  unfolding amongKeys
   among-append k [] ks = refl
-  among-append k (j ∷ js) ks = ap (λ (b : Bool). orSame O b (O .compare k j)) (among-append k js ks) ∙ among-by k j (among O k js) (among O k ks) (O .compare k j)
+  among-append k (j ∷ js) ks = ap (λ (b : Bool). orSame O b (O .compare k j)) (among-append k js ks) ∙ among-by k j (amongKeys O k js) (amongKeys O k ks) (O .compare k j)
 
   step-by : (b : Bool) (m n : ℕ) → m ≤ n → m ≤ cond b n (suc n)
   step-by true m n h = h
@@ -129,7 +129,7 @@ module _ {K : Type 0} (O : Order K) where
   pub different-more : (js ks : List K) → different O ks ≤ different O (js ++ ks)
   unfolding different
   different-more [] ks = omega arith
-  different-more (j ∷ js) ks = step-by (among O j (js ++ ks)) (different O ks) (different O (js ++ ks)) (different-more js ks)
+  different-more (j ∷ js) ks = step-by (amongKeys O j (js ++ ks)) (different O ks) (different O (js ++ ks)) (different-more js ks)
 
 module _ {K P : Type 0} (O : Order K) (key : P → K) where
   abbrev keys : List P → List K
@@ -149,7 +149,7 @@ module _ {K P : Type 0} (O : Order K) (key : P → K) where
       (λ j. self-has j (join O key a b) ∙ ap has (held-in-join O key j a b ra) ∙ or-has (heldAt O key j b) (heldAt O key j a)
       ∙ either-turned (has (heldAt O key j b)) (has (heldAt O key j a))
       ∙ ap (λ (c : Bool). either c (has (heldAt O key j b))) (held-is-among O key j a)
-      ∙ ap (either (among O j (keys a))) (held-is-among O key j b)
+      ∙ ap (either (amongKeys O j (keys a))) (held-is-among O key j b)
       ∙ sym (among-append O j (keys a) (keys b)))
 
   -- a rising list has as many different keys as points
@@ -165,7 +165,7 @@ module _ {K P : Type 0} (O : Order K) (key : P → K) where
   insert-by : (p x : P) (xs rest : List P) (t : Compared (O .Before) (key p) (key x)) → length xs ≤ length rest → length (x ∷ xs) ≤ length (insertBy O key p x xs rest t)
   insert-by p x xs rest (less _) h = omega arith
   insert-by p x xs rest (same _) h = omega arith
-  insert-by p x xs rest (more _) h = omega arith
+  insert-by p x xs rest (greater _) h = omega arith
 
   insert-longer : (p : P) (l : List P) → length l ≤ length (insert O key p l)
   insert-longer p [] = omega arith

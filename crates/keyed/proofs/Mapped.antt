@@ -1,7 +1,7 @@
 -- Joins of lists that a function takes to points, and what holds of all points of a join.
 use mathlib.Core.Path.{_≡_, refl, _∙_, ap}
 use mathlib.Core.List.{List, [], _∷_, map}
-use Rattle.keyed.specs.Keyed.{Compared, less, same, more, Order, insertBy, insert, join, Above, Rising}
+use Rattle.keyed.specs.Keyed.{Compared, less, same, greater, Order, insertBy, insert, join, Above, Rising}
 
 module _ {K P Q : Type 0} (O : Order K) (key : P → K) (f : Q → P) where
   abbrev keyOf : Q → K
@@ -10,7 +10,7 @@ module _ {K P Q : Type 0} (O : Order K) (key : P → K) (f : Q → P) where
   insert-by : (p x : Q) (xs rest : List Q) (t : Compared (O .Before) (keyOf p) (keyOf x)) → map f (insertBy O keyOf p x xs rest t) ≡ insertBy O key (f p) (f x) (map f xs) (map f rest) t
   insert-by p x xs rest (less _) = refl
   insert-by p x xs rest (same _) = refl
-  insert-by p x xs rest (more _) = refl
+  insert-by p x xs rest (greater _) = refl
 
   insert-map : (p : Q) (l : List Q) → map f (insert O keyOf p l) ≡ insert O key (f p) (map f l)
   insert-map p [] = refl
@@ -48,7 +48,7 @@ module _ {K P : Type 0} (O : Order K) (key : P → K) (G : P → Type 0) where
   insert-all-by : (p x : P) (xs rest : List P) (t : Compared (O .Before) (key p) (key x)) → G p → G x → All xs → All rest → All (insertBy O key p x xs rest t)
   insert-all-by p x xs rest (less _) gp gx gs gr = (gp, (gx, gs))
   insert-all-by p x xs rest (same _) gp gx gs gr = (gp, gs)
-  insert-all-by p x xs rest (more _) gp gx gs gr = (gx, gr)
+  insert-all-by p x xs rest (greater _) gp gx gs gr = (gx, gr)
 
   insert-all : (p : P) (l : List P) → G p → All l → All (insert O key p l)
   insert-all p [] gp gl = (gp, tt)

@@ -15,7 +15,7 @@ orElse (some x) y = some x
 pub data Compared {K : Type 0} (Before : K → K → Type 0) (a b : K) : Type 0 where
   less : Before a b → Compared Before a b
   same : a ≡ b → Compared Before a b
-  more : Before b a → Compared Before a b
+  greater : Before b a → Compared Before a b
 
 -- a strict total order of keys
 pub record Order (K : Type 0) : Type 1 where
@@ -28,23 +28,27 @@ module _ {K : Type 0} (O : Order K) where
   abbrev pub orSame : {a b : K} → Bool → Compared (O .Before) a b → Bool
   orSame r (less _) = r
   orSame r (same _) = true
-  orSame r (more _) = r
+  orSame r (greater _) = r
 
   -- k is one of the keys
-  unfoldable pub among : K → List K → Bool
-  among k [] = false
-  among k (j ∷ js) = orSame (among k js) (O .compare k j)
+  unfoldable pub amongKeys : K → List K → Bool
+  amongKeys k [] = false
+  amongKeys k (j ∷ js) = orSame (amongKeys k js) (O .compare k j)
 
   -- how many different keys there are: each is counted where it stands last
   unfoldable pub different : List K → ℕ
   different [] = 0
-  different (k ∷ ks) = cond (among k ks) (different ks) (suc (different ks))
+  different (k ∷ ks) = cond (amongKeys k ks) (different ks) (suc (different ks))
+
+  -- j is not above k
+  abbrev pub NotAbove : K → K → Type 0
+  NotAbove j k = O .Before k j → ⊥
 
 module _ {K P : Type 0} (O : Order K) (key : P → K) where
   abbrev pub insertBy : (p x : P) (xs rest : List P) → Compared (O .Before) (key p) (key x) → List P
   insertBy p x xs rest (less _) = p ∷ x ∷ xs
   insertBy p x xs rest (same _) = p ∷ xs
-  insertBy p x xs rest (more _) = x ∷ rest
+  insertBy p x xs rest (greater _) = x ∷ rest
 
   -- p at its place, in the stead of a point that has its key
   abbrev pub insert : P → List P → List P
@@ -59,7 +63,7 @@ module _ {K P : Type 0} (O : Order K) (key : P → K) where
   abbrev pub heldAtBy : {k : K} (x : P) → Option P → Compared (O .Before) k (key x) → Option P
   heldAtBy x r (less _) = r
   heldAtBy x r (same _) = some x
-  heldAtBy x r (more _) = r
+  heldAtBy x r (greater _) = r
 
   -- the point that a list holds at the key k
   abbrev pub heldAt : K → List P → Option P
@@ -83,17 +87,23 @@ module _ {K P : Type 0} (O : Order K) (key : P → K) where
   abbrev pub inForceBy : {k : K} (x : P) → Option P → Compared (O .Before) k (key x) → Option P
   inForceBy x r (less _) = none
   inForceBy x r (same _) = some x
-  inForceBy x r (more _) = orElse r (some x)
+  inForceBy x r (greater _) = orElse r (some x)
 
   -- the point with the greatest key not above k, or nothing
   abbrev pub inForce : K → List P → Option P
   inForce k [] = none
   inForce k (x ∷ xs) = inForceBy x (inForce k xs) (O .compare k (key x))
 
+  -- what "in force" means, whatever finds it: the point is held, its key is not above k, and no key between is held;
+  -- nothing is in force where no key that is not above k is held
+  abbrev pub InForceAt : K → List P → Option P → Type 0
+  InForceAt k l none = (j : K) → NotAbove O j k → heldAt j l ≡ none
+  InForceAt k l (some x) = (heldAt (key x) l ≡ some x) × (NotAbove O (key x) k × ((j : K) → O .Before (key x) j → NotAbove O j k → heldAt j l ≡ none))
+
   abbrev pub laterBy : (x y : P) → Compared (O .Before) (key x) (key y) → Option P
   laterBy x y (less _) = some y
   laterBy x y (same _) = some y
-  laterBy x y (more _) = some x
+  laterBy x y (greater _) = some x
 
   -- of the points in force in two lists the one with the later or only start, the second's where both start together
   abbrev pub later : Option P → Option P → Option P

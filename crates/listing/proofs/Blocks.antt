@@ -5,16 +5,16 @@ use mathlib.Core.List.{List, [], _∷_, _++_, append-assoc, append-nil}
 use native.Mathlib.Omega.{arith}
 use lib.ListN.{length, take, drop, length-map, List·getD-map, take-append-drop}
 use lib.Seq.{take-take, slice-cons}
+use Rattle.text.specs.Text.{text}
+use Rattle.text.specs.Typing.{RoomForText, Typed}
+use Rattle.text.proofs.Typing.{room-left, room-first}
+use Rattle.text.proofs.Lines.{text-append}
 use Rattle.record.specs.declared.Block.{Block}
 use Rattle.record.specs.declared.Block.the-variants.{Nothing}
 use Rattle.record.specs.declared.Record.{Record}
-use Rattle.record.specs.Valid.{blockIn, nowhere, allBlocks}
+use Rattle.record.specs.Blocks.{blockIn, emptyPlace, allBlocks}
 use Rattle.record.proofs.Laws.{blockAt, take-more}
-use Rattle.listing.specs.Text.{text}
 use Rattle.listing.specs.Listing.{blockLines, blocksLines}
-use Rattle.listing.specs.Typing.{Room, Typed}
-use Rattle.listing.proofs.Typing.{room-left, room-first}
-use Rattle.listing.proofs.Lines.{text-append}
 
 lines-append : (bs cs : List Block) → blocksLines (bs ++ cs) ≡ blocksLines bs ++ blocksLines cs
 unfolding blocksLines
@@ -37,7 +37,7 @@ module _ (r : Record) (j : ℕ) where
 
   -- where there is room for n blocks, there is room for the next one
   pub room-next : (n : ℕ) {o₀ o₁ : List ℕ} {p₀ p₁ : ℕ} → j < n → n ≤ length (r .places) → Typed o₀ p₀ before o₁ p₁
-      → Room o₀ p₀ (text (blocksLines (take n (allBlocks r)))) → Room o₁ p₁ next
+      → RoomForText o₀ p₀ (text (blocksLines (take n (allBlocks r)))) → RoomForText o₁ p₁ next
   unfolding blocksLines
   room-next n {o₁ = o₁} {p₁ = p₁} h k t room =
       let all = allBlocks r in
@@ -45,7 +45,7 @@ module _ (r : Record) (j : ℕ) where
       let k′ : n ≤ length all = rw (length-map (r .places) blockIn) k in
       let e : take n all ≡ take j all ++ (blockAt r j ∷ rest) =
       sym (take-append-drop j (take n all))
-      ∙ rw (take-take j n all (omega arith), slice-cons j n all Nothing h k′, List·getD-map blockIn (r .places) j nowhere) in
+      ∙ rw (take-take j n all (omega arith), slice-cons j n all Nothing h k′, List·getD-map blockIn (r .places) j emptyPlace) in
       let f : text (blocksLines (take n all)) ≡ before ++ (next ++ text (blocksLines rest)) =
       ap (λ (bs : List Block). text (blocksLines bs)) e
       ∙ rw (lines-append (take j all) (blockAt r j ∷ rest), text-append (blocksLines (take j all)) (blockLines (blockAt r j) ++ blocksLines rest), text-append (blockLines (blockAt r j)) (blocksLines rest)) in

@@ -1,8 +1,4 @@
-pub mod Typing
-pub mod Lines
 pub mod Blocks
-pub mod Decimals
-pub mod Signs
 pub mod Cases
 pub mod Different
 pub mod Longest

@@ -1,4 +1,2 @@
-pub mod Text
 pub mod Listing
 pub mod Longest
-pub mod Typing

@@ -5,14 +5,16 @@ use mathlib.Core.Bool.{Bool, cond, not, _||_}
 use mathlib.Core.List.{List, [], _∷_, _++_}
 use lib.Dec.{eqb}
 use lib.IntN.{ℤ, pos}
-use Rattle.bits.specs.Bits.{bit}
+use Rattle.tree.specs.Bits.{bit}
+use Rattle.tree.specs.Syntax.{Field}
+use Rattle.text.specs.Text.{Line, line, text}
 use Rattle.record.specs.declared.Block.{Block}
 use Rattle.record.specs.declared.Record.{Record}
-use Rattle.record.specs.Name.{Name, «app_identifier», «app_version», «metadata_refresh_flag», «num_ext_blocks», «dm_alignment_zero_bit», «ext_block_length», «ext_block_level», «min_PQ», «max_PQ», «avg_PQ», «target_max_PQ», «trim_slope», «trim_offset», «trim_power», «trim_chroma_weight», «trim_saturation_gain», «ms_weight», «active_area_left_offset», «active_area_right_offset», «active_area_top_offset», «active_area_bottom_offset», «ext_dm_alignment_zero_bit»}
-use Rattle.record.specs.Level.{Field, level, levelOf, valuesOf}
-use Rattle.record.specs.Valid.{blocks, valid}
+use Rattle.record.specs.Name.{Name, «app_identifier», «app_version», «metadata_refresh_flag», «num_ext_blocks», «dm_alignment_zero_bit», «ext_block_length», «ext_block_level», «min_PQ», «max_PQ», «avg_PQ», «target_max_PQ», «trim_slope», «trim_offset», «trim_power», «trim_chroma_weight», «trim_saturation_gain», «ms_weight», «active_area_left_offset», «active_area_right_offset», «active_area_top_offset», «active_area_bottom_offset», «ext_dm_alignment_zero_bit», «end», «wrapper»}
+use Rattle.record.specs.Level.{level, levelOf, valuesOf}
+use Rattle.record.specs.Blocks.{blocks}
+use Rattle.valid.specs.Valid.{valid}
 use Rattle.reader.specs.declared.Reading.{Reading}
-use Rattle.listing.specs.Text.{Line, text}
 
 -- the key of an element that has a line of its own; the others have none
 abbrev pub key : Name → String
@@ -38,12 +40,11 @@ key «active_area_right_offset» = "right"
 key «active_area_top_offset» = "top"
 key «active_area_bottom_offset» = "bottom"
 key «ext_dm_alignment_zero_bit» = ""
-
-abbrev pub line : String → ℤ → Line
-line k v = record { key = k; value = v }
+key «end» = ""
+key «wrapper» = ""
 
 -- the fields of a level, in syntax order, with their values
-unfoldable pub fieldLines : List Field → List ℤ → List Line
+unfoldable pub fieldLines : List (Field Name) → List ℤ → List Line
 fieldLines [] vs = []
 fieldLines (f ∷ fs) [] = []
 fieldLines (f ∷ fs) (v ∷ vs) = line (key (f .name)) v ∷ fieldLines fs vs

@@ -9,13 +9,13 @@ use native.Mathlib.Nat.{pow-succ', div-one, add-mul, mul-assoc, mod-lt}
 use lib.ListN.{length, take, drop, set, replicate, length-set, length-append, length-take, take-append-drop}
 use lib.Seq.{take-suc-set, drop-set-lt, take-at, drop-at}
 use lib.Pow.{shr-shr, pow-mono, pow-pos, split}
+use Rattle.tree.specs.Bits.{bitsOf, code, odd, value, valueFrom, bit, Bytes}
+use Rattle.tree.specs.Codes.{zerosOf, ueCode}
+use Rattle.tree.proofs.Lists.{later-on, bytes-take}
+use Rattle.tree.proofs.Bits.{length-code, length-bits, bits-append, bits-determine, code-value, value-code}
+use Rattle.tree.proofs.Elements.{zeros-law, zeros-is}
 use Rattle.pen.specs.declared.Pen.{Pen}
-use Rattle.bits.specs.Bits.{bitsOf, code, odd, value, valueFrom, bit, Bytes}
-use Rattle.bits.specs.Codes.{zerosOf, ueCode}
-use Rattle.pen.specs.Writing.{written, startPen, Sound, Room, Wrote}
-use Rattle.bits.proofs.Lists.{later-on, bytes-take}
-use Rattle.bits.proofs.Bits.{length-code, length-bits, bits-append, bits-determine, code-value, value-code}
-use Rattle.bits.proofs.Elements.{zeros-law, zeros-is}
+use Rattle.pen.specs.Writing.{bitsWritten, startPen, Sound, RoomForBits, Wrote}
 
 odd-mod : (v : ℕ) → odd (v % 2) ≡ odd v
 odd-mod v = let h : v % 2 % 2 ≡ v % 2 = omega arith in rw h
@@ -44,7 +44,7 @@ small pen s =
 pub held-bit : (out : List ℕ) (pen : Pen) (b : ℕ) → Sound pen → b < 2 → (pen .waiting ≡ 7 → ⊥)
     → Wrote out pen (odd b ∷ []) out (record { at = pen .at; waiting = pen .waiting + 1; bits = pen .bits * 2 + b })
 held-bit out pen b s h e = record {
-  more = rw (code-more (pen .waiting) (pen .bits) b h) (sym (append-assoc (bitsOf (take (pen .at) out)) (code (pen .waiting) (pen .bits)) (odd b ∷ [])));
+  upTo = rw (code-more (pen .waiting) (pen .bits) b h) (sym (append-assoc (bitsOf (take (pen .at) out)) (code (pen .waiting) (pen .bits)) (odd b ∷ [])));
   sound = record {
     few = room (pen .waiting) (s .few) e;
     small = rw (add-one (pen .waiting), pow-succ' 2 (pen .waiting)) (omega (arith, s .small));
@@ -66,7 +66,7 @@ stored-bit out pen b h e l =
     let m : code 8 a ≡ code 7 (pen .bits) ++ (odd b ∷ []) = code-more 7 (pen .bits) b h in
     let one : bitsOf (a ∷ []) ≡ code 8 a = append-nil (code 8 a) in
     record {
-      more = append-nil (bitsOf (take (pen .at + 1) (set out (pen .at) a)))
+      upTo = append-nil (bitsOf (take (pen .at + 1) (set out (pen .at) a)))
           ∙ rw (add-one (pen .at), take-suc-set out (pen .at) a l, bits-append (take (pen .at) out) (a ∷ []), one, m, e)
           (sym (append-assoc (bitsOf (take (pen .at) out)) (code 7 (pen .bits)) (odd b ∷ [])));
       sound = record { few = omega arith; small = omega arith };
@@ -78,7 +78,7 @@ stored-bit out pen b h e l =
 -- one writing behind another
 pub wrote-then : {o₀ o₁ o₂ : List ℕ} {p₀ p₁ p₂ : Pen} {bs cs : List Bool} → Wrote o₀ p₀ bs o₁ p₁ → Wrote o₁ p₁ cs o₂ p₂ → Wrote o₀ p₀ (bs ++ cs) o₂ p₂
 wrote-then {o₀} {o₁} {o₂} {p₀} {p₁} {p₂} {bs} {cs} p q = record {
-  more = q .more ∙ rw (p .more) (append-assoc (written o₀ p₀) bs cs);
+  upTo = q .upTo ∙ rw (p .upTo) (append-assoc (bitsWritten o₀ p₀) bs cs);
   sound = q .sound;
   later = q .later ∙ later-on (p₁ .at) (p₂ .at) o₁ o₀ (omega (arith, q .place, q .sound .few, p .sound .few)) (p .later);
   same = q .same ∙ p .same;
@@ -87,7 +87,7 @@ wrote-then {o₀} {o₁} {o₂} {p₀} {p₁} {p₂} {bs} {cs} p q = record {
 
 pub wrote-none : (out : List ℕ) (pen : Pen) → Sound pen → Wrote out pen [] out pen
 wrote-none out pen s = record {
-  more = sym (append-nil (written out pen));
+  upTo = sym (append-nil (bitsWritten out pen));
   sound = s;
   later = refl;
   same = refl;
@@ -95,7 +95,7 @@ wrote-none out pen s = record {
 }
 
 -- room for what follows is left
-pub room-left : {o₀ o₁ : List ℕ} {p₀ p₁ : Pen} {bs : List Bool} → Wrote o₀ p₀ bs o₁ p₁ → (n : ℕ) → Room o₀ p₀ (length bs + n) → Room o₁ p₁ n
+pub room-left : {o₀ o₁ : List ℕ} {p₀ p₁ : Pen} {bs : List Bool} → Wrote o₀ p₀ bs o₁ p₁ → (n : ℕ) → RoomForBits o₀ p₀ (length bs + n) → RoomForBits o₁ p₁ n
 room-left p n r = omega (arith, p .place, p .same)
 
 -- u(n), bit by bit: k bits are written, of v without its last n - k bits
@@ -111,7 +111,7 @@ module _ (o₀ o₁ : List ℕ) (p₀ p₁ : Pen) (n k v : ℕ) (so-far : Wrote 
   pub next-bit : (o₂ : List ℕ) (p₂ : Pen) → k < n → Wrote o₁ p₁ (odd (v / 2 ^ (n - 1 - k) % 2) ∷ []) o₂ p₂ → Wrote o₀ p₀ (code (k + 1) (v / 2 ^ (n - (k + 1)))) o₂ p₂
   next-bit o₂ p₂ h q = rw (code-next n k v h) (wrote-then so-far q)
 
-  pub next-room : k < n → Room o₀ p₀ n → Room o₁ p₁ 1
+  pub next-room : k < n → RoomForBits o₀ p₀ n → RoomForBits o₁ p₁ 1
   next-room h r = room-left so-far 1 (omega (arith, length-code k (v / 2 ^ (n - k))))
 
   pub all-bits : k ≡ n → Wrote o₀ p₀ (code n v) o₁ p₁
@@ -177,7 +177,7 @@ wrote-one {out} {pen} {bits} {o₁} {o₂} {p₁} {p₂} b₁ b₂ w₁ w₂ =
     let t₂ = take (p₂ .at) o₂ in
     let l : length (bitsOf t₁) ≡ length (bitsOf t₂) =
     omega (arith, length-bits t₁, length-bits t₂, length-take (p₁ .at) o₁, length-take (p₂ .at) o₂, w₁ .same, w₂ .same) in
-    let s = same-parts (bitsOf t₁) (code (p₁ .waiting) (p₁ .bits)) (bitsOf t₂) (code (p₂ .waiting) (p₂ .bits)) l (w₁ .more ∙ sym (w₂ .more)) in
+    let s = same-parts (bitsOf t₁) (code (p₁ .waiting) (p₁ .bits)) (bitsOf t₂) (code (p₂ .waiting) (p₂ .bits)) l (w₁ .upTo ∙ sym (w₂ .upTo)) in
     let t : t₁ ≡ t₂ = bits-determine t₁ t₂ (bytes-take (p₁ .at) o₁ b₁) (bytes-take (p₂ .at) o₂ b₂) (s .0) in
     let d : drop (p₁ .at) o₁ ≡ drop (p₂ .at) o₂ = w₁ .later ∙ ap (λ (n : ℕ). drop n out) a ∙ sym (w₂ .later) in
     let v : p₁ .bits ≡ p₂ .bits =

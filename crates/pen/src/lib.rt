@@ -5,10 +5,10 @@ ghost use mathlib.Core.Bool.{true, false};
 ghost use mathlib.Core.List.{[], _∷_};
 ghost use Prim.Native.Nat.{_+_, _<_, _≤_, _^_};
 ghost use lib.ListN.{length, replicate};
-ghost use Rattle.bits.specs.Bits.{code, odd};
-ghost use Rattle.bits.specs.Coding.{signed, holds, complement};
-ghost use Rattle.bits.specs.Codes.{zerosOf, ueCode};
-ghost use Rattle.pen.specs.Writing.{startPen, Sound, Room, Wrote};
+ghost use Rattle.tree.specs.Bits.{code, odd};
+ghost use Rattle.tree.specs.Coding.{signed, holds, complement};
+ghost use Rattle.tree.specs.Codes.{zerosOf, ueCode};
+ghost use Rattle.pen.specs.Writing.{startPen, Sound, RoomForBits, Wrote};
 
 // Where the next whole byte goes, and the bits that wait for it, as a number.
 pub struct Pen {
@@ -32,7 +32,7 @@ impl Pen {
 
 // One bit. It waits, or it is the eighth and the byte is written.
 fn put_bit(out: &mut [u8], pen: Pen, b: u32) -> Pen
-    requires { ⌜ Sound pen × Room (now out) pen 1 × (b < 2) ⌝ }
+    requires { ⌜ Sound pen × RoomForBits (now out) pen 1 × (b < 2) ⌝ }
     ensures { λ r. ⌜ Wrote (now (out .entry)) pen (odd b ∷ []) (now (out .exit)) r ⌝ }
 {
     let at = pen.at;
@@ -55,7 +55,7 @@ fn put_bit(out: &mut [u8], pen: Pen, b: u32) -> Pen
 
 // u(n), for every n up to 32: the last n bits of v.
 pub fn put_u(out: &mut [u8], pen: Pen, n: usize, v: u32) -> Pen
-    requires { ⌜ Sound pen × Room (now out) pen n × (n ≤ 32) ⌝ }
+    requires { ⌜ Sound pen × RoomForBits (now out) pen n × (n ≤ 32) ⌝ }
     ensures { λ r. ⌜ Wrote (now (out .entry)) pen (code n v) (now (out .exit)) r ⌝ }
 {
     let mut p = pen;
@@ -69,7 +69,7 @@ pub fn put_u(out: &mut [u8], pen: Pen, n: usize, v: u32) -> Pen
 
 // n zero bits, for every n up to 32.
 pub fn put_zeros(out: &mut [u8], pen: Pen, n: usize) -> Pen
-    requires { ⌜ Sound pen × Room (now out) pen n × (n ≤ 32) ⌝ }
+    requires { ⌜ Sound pen × RoomForBits (now out) pen n × (n ≤ 32) ⌝ }
     ensures { λ r. ⌜ Wrote (now (out .entry)) pen (replicate n false) (now (out .exit)) r ⌝ }
 {
     put_u(out, pen, n, 0)
@@ -90,7 +90,7 @@ fn to_unsigned(v: i32, n: usize) -> u32
 
 // i(n), for every n from 1 to 32.
 pub fn put_i(out: &mut [u8], pen: Pen, n: usize, v: i32) -> Pen
-    requires { ⌜ Sound pen × Room (now out) pen n × (0 < n) × (n ≤ 32) × (holds (signed n) v ≡ true) ⌝ }
+    requires { ⌜ Sound pen × RoomForBits (now out) pen n × (0 < n) × (n ≤ 32) × (holds (signed n) v ≡ true) ⌝ }
     ensures { λ r. ⌜ Wrote (now (out .entry)) pen (code n (complement n v)) (now (out .exit)) r ⌝ }
 {
     put_u(out, pen, n, to_unsigned(v, n))
@@ -112,7 +112,7 @@ pub fn zeros_of(v: u32) -> usize
 
 // ue(v): the zeros, and v + 1, whose first bit is the one behind them.
 pub fn put_ue(out: &mut [u8], pen: Pen, v: u32) -> Pen
-    requires { ⌜ Sound pen × Room (now out) pen (length (ueCode v)) × (v + 1 < 2 ^ 32) ⌝ }
+    requires { ⌜ Sound pen × RoomForBits (now out) pen (length (ueCode v)) × (v + 1 < 2 ^ 32) ⌝ }
     ensures { λ r. ⌜ Wrote (now (out .entry)) pen (ueCode v) (now (out .exit)) r ⌝ }
 {
     let k = zeros_of(v);

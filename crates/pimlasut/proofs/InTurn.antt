@@ -8,22 +8,23 @@ use borrow.Author.Tests.{leb-true}
 use lib.Dec.{leb}
 use lib.IntN.{ℤ}
 use lib.ListN.{length, take}
-use Rattle.bits.specs.Bits.{Bytes}
-use Rattle.record.specs.Valid.{valid}
-use Rattle.promises.specs.Functions.{readBare}
-use Rattle.promises.proofs.Reading.{accepted-means-the-one-payload}
+use Rattle.refusals.specs.Refusals.{notValid, tooManyPoints, notATrack}
+use Rattle.tree.specs.Bits.{Bytes}
+use Rattle.valid.specs.Valid.{valid}
 use Rattle.keyed.proofs.Mapped.{join-all}
 use Rattle.plan.specs.Limit.{mostPoints}
 use Rattle.plan.specs.Pictures.{pictures}
 use Rattle.track.specs.declared.Point.{Point}
-use Rattle.track.specs.Track.{number, padded, isTrack, joinOf, placeOf}
+use Rattle.track.specs.Track.{number, padded, isTrack, joinOf, placedPoints}
+use Rattle.promises.specs.Functions.{readBare}
+use Rattle.promises.proofs.Reading.{accepted-means-the-one-payload}
 use Rattle.flat.specs.Flat.{flat, recordIn}
 use Rattle.flat.proofs.Named.{length-in, flat-names, valid-is-typed}
 use Rattle.tables.specs.Table.{tableIn}
 use Rattle.tables.proofs.Back.{TypedPoint, AllTyped, padded-back, track-typed}
-use Rattle.pimlasut.specs.Boundary.{placing, placedTable, joining, joinedTable}
+use Rattle.pimlasut.specs.Boundary.{pointNamed, placing, placedTable, joining, joinedTable}
 
-done-by : (u v w : Bool) → _≡_ {A = ℕ} (cond u (cond v (cond w 0 15) 16) 16) 0 → (u ≡ true) × (v ≡ true) × (w ≡ true)
+done-by : (u v w : Bool) → _≡_ {A = ℕ} (cond u (cond v (cond w 0 tooManyPoints) notATrack) notATrack) 0 → (u ≡ true) × (v ≡ true) × (w ≡ true)
 done-by true true true e = (refl, refl, refl)
 done-by true true false e = absurd (omega (arith, e))
 done-by true false w e = absurd (omega (arith, e))
@@ -39,15 +40,16 @@ placed-by : (t : Bool) (p : Point) → TypedPoint p → (length (cond t (p ∷ [
 placed-by true p g = (omega arith, (g, tt))
 placed-by false p g = (omega arith, tt)
 
-good-by : (u : Bool) → _≡_ {A = ℕ} (cond u 0 14) 0 → u ≡ true
+good-by : (u : Bool) → _≡_ {A = ℕ} (cond u 0 notValid) 0 → u ≡ true
 good-by true e = refl
 good-by false e = absurd (omega (arith, e))
 
-pub placed-is-read : (numbers : List ℤ) (picture : ℤ) → placing numbers picture .result ≡ 0 → tableIn (placedTable numbers picture) ≡ padded (placeOf (recordIn numbers) picture)
+pub placed-is-read : (numbers : List ℤ) (picture : ℤ) → placing numbers picture .result ≡ 0 → tableIn (placedTable numbers picture) ≡ padded (placedPoints (pointNamed numbers picture))
 placed-is-read numbers picture e =
     let r = recordIn numbers in
-    let g = placed-by (r .refresh) (record { picture = picture; «record» = r }) (valid-is-typed r (length-in numbers) (good-by (valid r) e)) in
-    padded-back (placeOf r picture) (g .0) (g .1)
+    let x = pointNamed numbers picture in
+    let g = placed-by (r .refresh) x (valid-is-typed r (length-in numbers) (good-by (valid r) e)) in
+    padded-back (placedPoints x) (g .0) (g .1)
 
 -- and the numbers that a reading leaves name the record that was read
 pub reading-is-named : (s : List ℕ) → Bytes s → readBare s .result ≡ 0 → recordIn (flat (readBare s .«record»)) ≡ readBare s .«record»

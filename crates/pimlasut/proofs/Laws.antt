@@ -9,31 +9,33 @@ use lib.Dec.{eqb, leb}
 use lib.IntN.{ℤ}
 use lib.ListN.{length, take, drop, drop-of-length-le, length-append}
 use lib.Seq.{paste, take-all}
+use Rattle.refusals.specs.Refusals.{unfitOutput, notValid, tooManyPoints, notATrack}
+use Rattle.output.specs.declared.Written.{Written}
+use Rattle.output.specs.Output.{writtenAs, bufferAs, fits}
 use Rattle.record.specs.declared.Record.{Record}
-use Rattle.record.specs.Valid.{mostBlocks, valid}
+use Rattle.record.specs.Blocks.{mostBlocks}
+use Rattle.valid.specs.Valid.{valid}
 use Rattle.syntax.specs.Element.{payload}
 use Rattle.syntax.proofs.Largest.{no-payload-is-longer, largest-length}
 use Rattle.reader.specs.declared.Reading.{Reading}
-use Rattle.writer.specs.declared.Written.{Written}
-use Rattle.writer.specs.Writing.{writtenAs, bufferAs, fits}
 use Rattle.plan.specs.declared.Scanned.{Scanned}
 use Rattle.plan.specs.declared.Layout.{Layout}
-use Rattle.plan.specs.declared.Found.{Found}
+use Rattle.plan.specs.declared.Sought.{Sought}
 use Rattle.plan.specs.Limit.{mostPoints}
-use Rattle.plan.specs.Planning.{noSources, layoutOf, mergedSources, refusal, planOf}
-use Rattle.plan.specs.Seeking.{reachOf, seekOf}
-use Rattle.flat.specs.Flat.{flat, flatLength, recordIn}
-use Rattle.flat.proofs.Named.{length-in}
+use Rattle.plan.specs.Planning.{noSources, layoutOf, mergedSources, refusedLayout, planOf}
+use Rattle.plan.specs.Seeking.{reachOf, noneSought, soughtAt, seekOf}
 use Rattle.track.specs.declared.Point.{Point}
 use Rattle.track.specs.declared.InForce.{InForce}
 use Rattle.track.specs.declared.Joined.{Joined}
 use Rattle.track.specs.Track.{padded, joinOf, joinRefusal, joinAnswer, lookupAnswer}
-use Rattle.track.specs.Working.{pointAt, heldOf, missingOf, lookFrom, scanOf, chosenOf, filledTo, answerOf}
+use Rattle.track.specs.Inner.{pointAt, heldOf, missingOf, lookFrom, scanOf, chosenOf, filledTo, answerOf}
 use Rattle.track.proofs.Together.{laid, answer-is, table-is}
 use Rattle.track.proofs.Looking.{look-is, inside}
+use Rattle.flat.specs.Flat.{flat, flatLength, recordIn}
+use Rattle.flat.proofs.Named.{length-in}
 use Rattle.tables.specs.Table.{pointIn, tableIn}
 use Rattle.tables.proofs.Laws.{length-table, table-at}
-use Rattle.pimlasut.specs.Boundary.{unless, after, isRecord}
+use Rattle.pimlasut.specs.Boundary.{ifSized, after, isRecord}
 
 -- ---- lengths, and what stays
 
@@ -44,11 +46,11 @@ module _ {A : Type 0} (n : ℕ) (new old : A) where
   pub given : n ≡ 0 → new ≡ after n new old
   given h = sym (ap (λ (t : Bool). cond t new old) (eq-eqb n 0 h))
 
-pub wrong : (t : Bool) (n : ℕ) → t ≡ false → 13 ≡ unless t n
-wrong t n h = sym (ap (λ (u : Bool). cond u n 13) h)
+pub wrong : (t : Bool) (n : ℕ) → t ≡ false → unfitOutput ≡ ifSized t n
+wrong t n h = sym (ap (λ (u : Bool). cond u n unfitOutput) h)
 
-pub right : (t : Bool) (n : ℕ) → t ≡ true → n ≡ unless t n
-right t n h = sym (ap (λ (u : Bool). cond u n 13) h)
+pub right : (t : Bool) (n : ℕ) → t ≡ true → n ≡ ifSized t n
+right t n h = sym (ap (λ (u : Bool). cond u n unfitOutput) h)
 
 -- the code asks whether one of the lengths is wrong
 pub one-wrong : (a b : Bool) → not a || not b ≡ true → a && b ≡ false
@@ -85,7 +87,7 @@ whole-row l n e = take-all n l (omega arith)
 -- a reading, as it is given
 pub given-reading : (row : List ℤ) (bits : ℕ) {row′ : List ℤ} {bits′ n : ℕ} {q expected : Reading} → length row ≡ flatLength → q ≡ expected
     → n ≡ q .result → row′ ≡ after n (flat (q .«record»)) row → bits′ ≡ after n (q .bits) bits
-    → (n ≡ unless (isRecord row) (expected .result)) × ((row′ ≡ after n (flat (expected .«record»)) row) × (bits′ ≡ after n (expected .bits) bits))
+    → (n ≡ ifSized (isRecord row) (expected .result)) × ((row′ ≡ after n (flat (expected .«record»)) row) × (bits′ ≡ after n (expected .bits) bits))
 given-reading row bits {n = n} {expected = expected} l e f g h = (
   f ∙ ap (λ (q : Reading). q .result) e ∙ right (isRecord row) (expected .result) (eq-eqb (length row) flatLength l),
   (g ∙ ap (λ (q : Reading). after n (flat (q .«record»)) row) e, h ∙ ap (λ (q : Reading). after n (q .bits) bits) e),
@@ -94,7 +96,7 @@ given-reading row bits {n = n} {expected = expected} l e f g h = (
 -- ---- writing
 
 abbrev answerBy : List ℕ → Bool → Bool → Written
-answerBy bytes t u = cond t (cond u (record { result = 0; bytes = length bytes }) (record { result = 13; bytes = 0 })) (record { result = 14; bytes = 0 })
+answerBy bytes t u = cond t (cond u (record { result = 0; bytes = length bytes }) (record { result = unfitOutput; bytes = 0 })) (record { result = notValid; bytes = 0 })
 
 abbrev bufferBy : List ℕ → List ℕ → Bool → List ℕ
 bufferBy bytes out t = cond t (bytes ++ drop (length bytes) out) out
@@ -134,7 +136,7 @@ module _ (before : List ℕ) (row : List ℤ) (out : List ℕ) (l : length row �
   few-written h = omega (arith, ap (λ (w : Written). w .bytes) answer, few-bytes before (recordIn row) out h (length-in row))
 
   pub given-written : (k : ℕ) {out′ : List ℕ} {n k′ : ℕ} → out′ ≡ bufferAs (before ++ payload r) (valid r) out → n ≡ w .result → k′ ≡ after n (w .bytes) k
-      → (n ≡ unless (isRecord row) (writtenAs bytes good out .result)) × ((out′ ≡ after n (bufferAs bytes good out) out) × (k′ ≡ after n (writtenAs bytes good out .bytes) k))
+      → (n ≡ ifSized (isRecord row) (writtenAs bytes good out .result)) × ((out′ ≡ after n (bufferAs bytes good out) out) × (k′ ≡ after n (writtenAs bytes good out .bytes) k))
   given-written k {n = n} g h i =
       let result = h ∙ ap (λ (w : Written). w .result) answer in (
         result ∙ right (isRecord row) (writtenAs bytes good out .result) (eq-eqb (length row) flatLength l),
@@ -146,11 +148,11 @@ module _ (before : List ℕ) (row : List ℤ) (out : List ℕ) (l : length row �
 
 -- ---- a lookup
 
-abbrev foundBy : ℕ → Bool → Found
-foundBy k t = cond t (record { result = 0; found = false; at = 0 }) (record { result = 0; found = true; at = k - 1 })
+abbrev foundBy : ℕ → Bool → Sought
+foundBy k t = cond t (noneSought 0) (soughtAt (k - 1))
 
-abbrev soughtBy : ℕ → Bool → Found
-soughtBy k t = cond t (foundBy k (eqb k 0)) (record { result = 16; found = false; at = 0 })
+abbrev soughtBy : ℕ → Bool → Sought
+soughtBy k t = cond t (foundBy k (eqb k 0)) (noneSought notATrack)
 
 done-by : (k : ℕ) (t : Bool) → foundBy k t .result ≡ 0
 done-by k true = refl
@@ -168,10 +170,10 @@ found-done s n p h = go (reachOf p (take n (s .pictures))) (s .track) h
 
 -- what a search has found is what the lookup answers
 module _ (l : List ℤ) (n : ℕ) (p : ℤ) where
-  abbrev pub sought : Found
+  abbrev pub sought : Sought
   sought = seekOf (scanOf (tableIn l) n) n p
 
-  look-by : (f : Found) (t : Bool) → (t ≡ true → f .result ≡ 0)
+  look-by : (f : Sought) (t : Bool) → (t ≡ true → f .result ≡ 0)
       → (cond t (heldOf (pointAt (tableIn l) (f .at))) (missingOf f) .result ≡ f .result) × (cond t (heldOf (pointAt (tableIn l) (f .at))) (missingOf f) .found ≡ t)
   look-by f true h = (sym (h refl), refl)
   look-by f false h = (refl, refl)
@@ -204,15 +206,15 @@ module _ (l : List ℤ) (n : ℕ) (p : ℤ) where
 
 -- ---- a join
 
-fitting-count : (c : List ℕ) (t : Bool) → (t ≡ true → length c ≤ 64) → cond t (record { result = 0; count = length c; sources = c ++ drop (length c) noSources }) (refusal 15) .count ≤ 64
+fitting-count : (c : List ℕ) (t : Bool) → (t ≡ true → length c ≤ mostPoints) → cond t (record { result = 0; count = length c; sources = c ++ drop (length c) noSources }) (refusedLayout tooManyPoints) .count ≤ mostPoints
 fitting-count c true h = h refl
 fitting-count c false h = omega arith
 
-pub few-points : (s : Scanned) (n : ℕ) (t : Scanned) (m k : ℕ) → planOf s n t m k .count ≤ 64
+pub few-points : (s : Scanned) (n : ℕ) (t : Scanned) (m k : ℕ) → planOf s n t m k .count ≤ mostPoints
 few-points s n t m k = go (s .track) (t .track) (eqb k mostPoints)
   where
-    go : (u v w : Bool) → cond u (cond v (cond w (layoutOf (mergedSources (s .pictures) n (t .pictures) m)) (refusal 13)) (refusal 16)) (refusal 16) .count ≤ 64
-    go true true true = fitting-count (mergedSources (s .pictures) n (t .pictures) m) (leb (length (mergedSources (s .pictures) n (t .pictures) m)) 64) (leb-true (length (mergedSources (s .pictures) n (t .pictures) m)) 64)
+    go : (u v w : Bool) → cond u (cond v (cond w (layoutOf (mergedSources (s .pictures) n (t .pictures) m)) (refusedLayout unfitOutput)) (refusedLayout notATrack)) (refusedLayout notATrack) .count ≤ mostPoints
+    go true true true = fitting-count (mergedSources (s .pictures) n (t .pictures) m) (leb (length (mergedSources (s .pictures) n (t .pictures) m)) mostPoints) (leb-true (length (mergedSources (s .pictures) n (t .pictures) m)) mostPoints)
     go true true false = omega arith
     go true false w = omega arith
     go false v w = omega arith

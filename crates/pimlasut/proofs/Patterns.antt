@@ -12,9 +12,10 @@ use lib.Signed.{mag}
 use Rattle.record.specs.declared.Block.{Block}
 use Rattle.record.specs.declared.Block.the-variants.{Nothing, Level1, Level2, Level5}
 use Rattle.record.specs.Level.{levelOf, valuesOf}
-use Rattle.record.specs.Valid.{inRange}
-use Rattle.shader.specs.Shader.{singleBits, conversionBits}
-use Rattle.shader.proofs.Codes.{below, at-each-code}
+use Rattle.record.specs.Blocks.{inRange}
+use Rattle.singles.specs.Singles.{singleBits}
+use Rattle.singles.proofs.Codes.{below, at-each-code}
+use Rattle.shader.specs.Shader.{conversionBits}
 use Rattle.shader.proofs.Ranges.{codes}
 use Rattle.pimlasut.specs.Boundary.{noNumber, Patterns}
 

@@ -6,8 +6,10 @@ use mathlib.Core.Bool.{Bool, cond}
 use lib.Dec.{eqb}
 use lib.IntN.{ℤ}
 use lib.ListN.{length}
+use Rattle.refusals.specs.Refusals.{unfitOutput}
 use Rattle.plan.specs.Limit.{mostPoints}
-use Rattle.track.specs.Track.{padded, joinOf, joinAnswer, placeOf, placeAnswer, lookupAnswer}
+use Rattle.track.specs.Track.{padded, joinOf, joinAnswer, placedPoints, placeAnswer, lookupAnswer}
+use Rattle.track.specs.declared.Point.{Point}
 use Rattle.track.specs.declared.Placed.{Placed}
 use Rattle.track.specs.declared.InForce.{InForce}
 use Rattle.track.specs.declared.Joined.{Joined}
@@ -15,8 +17,8 @@ use Rattle.flat.specs.Flat.{flatLength, recordIn}
 use Rattle.tables.specs.Table.{flatTable, tableLength, tableIn}
 
 -- an argument of a wrong length is refused with 13 before everything else
-abbrev pub unless : Bool → ℕ → ℕ
-unless sized result = cond sized result 13
+abbrev pub ifSized : Bool → ℕ → ℕ
+ifSized sized result = cond sized result unfitOutput
 
 -- a lent array or number afterwards: new where the result is 0, and else as it was
 abbrev pub after : {A : Type 0} → ℕ → A → A → A
@@ -35,13 +37,17 @@ abbrev pub singles : ℕ
 singles = 7
 
 -- ---- the track functions, of tables of numbers
--- what a placing answers, of the record that the numbers name
+-- the point to be placed: the record that the numbers name, at the picture
+abbrev pub pointNamed : List ℤ → ℤ → Point
+pointNamed numbers picture = record { picture = picture; «record» = recordIn numbers }
+
+-- what a placing answers
 abbrev pub placing : List ℤ → ℤ → Placed
-placing numbers picture = placeAnswer (recordIn numbers) picture mostPoints
+placing numbers picture = placeAnswer (pointNamed numbers picture) mostPoints
 
 -- the numbers of the table that it leaves where it is done
 abbrev pub placedTable : List ℤ → ℤ → List ℤ
-placedTable numbers picture = flatTable (padded (placeOf (recordIn numbers) picture))
+placedTable numbers picture = flatTable (padded (placedPoints (pointNamed numbers picture)))
 
 -- what a lookup answers, of the table that the numbers are
 abbrev pub looking : List ℤ → ℕ → ℤ → InForce

@@ -1,31 +1,31 @@
 // The library for C: include/pimlasut.h has the same functions with C's types. A slice crosses as a pointer and a length.
 // A record crosses as 146 numbers and a table of points as 9,408 (crates flat, tables), because no enum crosses.
 // Every function answers the result number; on a refusal every lent array and number stays as it was.
-use plan::Found;
+use output::Written;
+use plan::Sought;
 use reader::Reading;
-use record::Record;
+use refusals::Refusal;
 use shader::Numbers;
 use track::Point;
-use writer::Written;
 ghost use mathlib.Core.Path.{_≡_};
 ghost use mathlib.Core.Bool.{true, cond, _&&_};
 ghost use Prim.Native.Nat.{_<_};
 ghost use lib.Dec.{eqb};
 ghost use lib.ListN.{length};
-ghost use Rattle.bits.specs.Bits.{bit};
-ghost use Rattle.record.specs.Valid.{mostBlocks};
+ghost use Rattle.tree.specs.Bits.{bit};
+ghost use Rattle.record.specs.Blocks.{mostBlocks};
 ghost use Rattle.shader.specs.Shader.{bitsIn, conversionResult, conversionBits};
-ghost use Rattle.promises.specs.Functions.{readBare, readWrapped, writeBare, bareBuffer, writeWrapped, wrappedBuffer};
 ghost use Rattle.plan.specs.Limit.{mostPoints};
+ghost use Rattle.track.specs.Track.{padded, placedPoints};
+ghost use Rattle.promises.specs.Functions.{readBare, readWrapped, writeBare, bareBuffer, writeWrapped, wrappedBuffer};
 ghost use Rattle.flat.specs.Flat.{placeLength, flat, flatLength, recordIn, blockNamed};
-ghost use Rattle.track.specs.Track.{padded, placeOf};
 ghost use Rattle.tables.specs.Table.{flatTable, tableLength, pointIn};
-ghost use Rattle.pimlasut.specs.Boundary.{unless, after, isRecord, isTable, singles, placing, placedTable, looking, joining, joinedTable, Patterns};
+ghost use Rattle.pimlasut.specs.Boundary.{ifSized, after, isRecord, isTable, singles, placing, placedTable, looking, joining, joinedTable, Patterns};
 
-// 01, Refusal numbers.
-const WRONG_LENGTH: u32 = 13;
+// 01, Refusal numbers, as C's functions give them.
+const WRONG_LENGTH: u32 = Refusal::UNFIT_OUTPUT as u32;
 
-const NOT_VALID: u32 = 14;
+const NOT_VALID: u32 = Refusal::NOT_VALID as u32;
 
 // How many numbers the shader gets.
 const SINGLES: usize = 7;
@@ -49,7 +49,7 @@ fn give_reading(reading: Reading, numbers: &mut [i32], bits: &mut u32) -> u32
 
 #[no_mangle]
 pub extern "C" fn pim_read_bare(input: &[u8], numbers: &mut [i32], bits: &mut u32) -> u32
-    ensures result { λ r. ⌜ r ≡ unless (isRecord (now (numbers .entry))) (readBare (now (input .entry)) .result) ⌝ }
+    ensures result { λ r. ⌜ r ≡ ifSized (isRecord (now (numbers .entry))) (readBare (now (input .entry)) .result) ⌝ }
     ensures record { λ r. ⌜ now (numbers .exit) ≡ after r (flat (readBare (now (input .entry)) .«record»)) (now (numbers .entry)) ⌝ }
     ensures bits { λ r. ⌜ now (bits .exit) ≡ after r (readBare (now (input .entry)) .bits) (now (bits .entry)) ⌝ }
 {
@@ -62,7 +62,7 @@ pub extern "C" fn pim_read_bare(input: &[u8], numbers: &mut [i32], bits: &mut u3
 
 #[no_mangle]
 pub extern "C" fn pim_read_wrapped(input: &[u8], numbers: &mut [i32], bits: &mut u32) -> u32
-    ensures result { λ r. ⌜ r ≡ unless (isRecord (now (numbers .entry))) (readWrapped (now (input .entry)) .result) ⌝ }
+    ensures result { λ r. ⌜ r ≡ ifSized (isRecord (now (numbers .entry))) (readWrapped (now (input .entry)) .result) ⌝ }
     ensures record { λ r. ⌜ now (numbers .exit) ≡ after r (flat (readWrapped (now (input .entry)) .«record»)) (now (numbers .entry)) ⌝ }
     ensures bits { λ r. ⌜ now (bits .exit) ≡ after r (readWrapped (now (input .entry)) .bits) (now (bits .entry)) ⌝ }
 {
@@ -89,7 +89,7 @@ fn give_written(answer: Written, written: &mut u32) -> u32
 
 #[no_mangle]
 pub extern "C" fn pim_write_bare(numbers: &[i32], out: &mut [u8], written: &mut u32) -> u32
-    ensures result { λ r. ⌜ r ≡ unless (isRecord (now (numbers .entry))) (writeBare (recordIn (now (numbers .entry))) (now (out .entry)) .result) ⌝ }
+    ensures result { λ r. ⌜ r ≡ ifSized (isRecord (now (numbers .entry))) (writeBare (recordIn (now (numbers .entry))) (now (out .entry)) .result) ⌝ }
     ensures buffer { λ r. ⌜ now (out .exit) ≡ after r (bareBuffer (recordIn (now (numbers .entry))) (now (out .entry))) (now (out .entry)) ⌝ }
     ensures bytes { λ r. ⌜ now (written .exit) ≡ after r (writeBare (recordIn (now (numbers .entry))) (now (out .entry)) .bytes) (now (written .entry)) ⌝ }
 {
@@ -103,7 +103,7 @@ pub extern "C" fn pim_write_bare(numbers: &[i32], out: &mut [u8], written: &mut 
 
 #[no_mangle]
 pub extern "C" fn pim_write_wrapped(numbers: &[i32], out: &mut [u8], written: &mut u32) -> u32
-    ensures result { λ r. ⌜ r ≡ unless (isRecord (now (numbers .entry))) (writeWrapped (recordIn (now (numbers .entry))) (now (out .entry)) .result) ⌝ }
+    ensures result { λ r. ⌜ r ≡ ifSized (isRecord (now (numbers .entry))) (writeWrapped (recordIn (now (numbers .entry))) (now (out .entry)) .result) ⌝ }
     ensures buffer { λ r. ⌜ now (out .exit) ≡ after r (wrappedBuffer (recordIn (now (numbers .entry))) (now (out .entry))) (now (out .entry)) ⌝ }
     ensures bytes { λ r. ⌜ now (written .exit) ≡ after r (writeWrapped (recordIn (now (numbers .entry))) (now (out .entry)) .bytes) (now (written .entry)) ⌝ }
 {
@@ -132,7 +132,7 @@ fn put_bits(n: Numbers, bits: &mut [u32])
 
 #[no_mangle]
 pub extern "C" fn pim_shader(numbers: &[i32], bits: &mut [u32]) -> u32
-    ensures result { λ r. ⌜ r ≡ unless (eqb (length (now (numbers .entry))) placeLength && eqb (length (now (bits .entry))) singles) (conversionResult (blockNamed (now (numbers .entry)))) ⌝ }
+    ensures result { λ r. ⌜ r ≡ ifSized (eqb (length (now (numbers .entry))) placeLength && eqb (length (now (bits .entry))) singles) (conversionResult (blockNamed (now (numbers .entry)))) ⌝ }
     ensures bits { λ r. ⌜ now (bits .exit) ≡ after r (conversionBits (blockNamed (now (numbers .entry)))) (now (bits .entry)) ⌝ }
 {
     if (numbers.len() != flat::PLACE) | (bits.len() != SINGLES) {
@@ -150,17 +150,15 @@ pub extern "C" fn pim_shader(numbers: &[i32], bits: &mut [u32]) -> u32
 
 // ---- tracks
 
-fn place_point(table: &mut [i32], shown: Record, picture: i32) -> u32
-    requires { ⌜ (length (now table) ≡ tableLength) × (length (shown .places) ≡ mostBlocks) ⌝ }
-    ensures count { λ r. ⌜ r ≡ bit (shown .refresh) ⌝ }
-    ensures table { λ _. ⌜ now (table .exit) ≡ flatTable (padded (placeOf shown picture)) ⌝ }
+// Of a point whose record is valid.
+fn place_point(table: &mut [i32], point: Point) -> u32
+    requires { ⌜ (length (now table) ≡ tableLength) × (length (point .«record» .places) ≡ mostBlocks) ⌝ }
+    ensures count { λ r. ⌜ r ≡ length (placedPoints point) ⌝ }
+    ensures table { λ _. ⌜ now (table .exit) ≡ flatTable (padded (placedPoints point)) ⌝ }
 {
     tables::clear(table);
+    let shown = point.record;
     if shown.refresh {
-        let point = Point {
-            picture,
-            record: shown,
-        };
         tables::put_point(table, 0, point);
         return 1;
     }
@@ -174,7 +172,7 @@ pub extern "C" fn pim_place(
     table: &mut [i32],
     count: &mut u32,
 ) -> u32
-    ensures result { λ r. ⌜ r ≡ unless (isRecord (now (numbers .entry)) && isTable (now (table .entry))) (placing (now (numbers .entry)) picture .result) ⌝ }
+    ensures result { λ r. ⌜ r ≡ ifSized (isRecord (now (numbers .entry)) && isTable (now (table .entry))) (placing (now (numbers .entry)) picture .result) ⌝ }
     ensures table { λ r. ⌜ now (table .exit) ≡ after r (placedTable (now (numbers .entry)) picture) (now (table .entry)) ⌝ }
     ensures count { λ r. ⌜ now (count .exit) ≡ after r (placing (now (numbers .entry)) picture .count) (now (count .entry)) ⌝ }
 {
@@ -182,15 +180,16 @@ pub extern "C" fn pim_place(
         return WRONG_LENGTH;
     }
     let r = flat::get_record(numbers, 0);
-    if record::is_valid(r) {
-        *count = place_point(table, r, picture);
+    if valid::is_valid(r) {
+        let point = Point { picture, record: r };
+        *count = place_point(table, point);
         return 0;
     }
     NOT_VALID
 }
 
 // What a search has found, shown.
-fn show(table: &[i32], sought: Found, numbers: &mut [i32], found: &mut u32) -> u32
+fn show(table: &[i32], sought: Sought, numbers: &mut [i32], found: &mut u32) -> u32
     requires { ⌜ (length (now table) ≡ tableLength) × (length (now numbers) ≡ flatLength) × (sought .found ≡ true → sought .at < mostPoints) ⌝ }
     ensures result { λ r. ⌜ r ≡ sought .result ⌝ }
     ensures record { λ r. ⌜ now (numbers .exit) ≡ cond (eqb r 0 && sought .found) (flat (pointIn (now (table .entry)) (sought .at) .«record»)) (now (numbers .entry)) ⌝ }
@@ -219,7 +218,7 @@ pub extern "C" fn pim_lookup(
     numbers: &mut [i32],
     found: &mut u32,
 ) -> u32
-    ensures result { λ r. ⌜ r ≡ unless (isTable (now (table .entry)) && isRecord (now (numbers .entry))) (looking (now (table .entry)) count picture .result) ⌝ }
+    ensures result { λ r. ⌜ r ≡ ifSized (isTable (now (table .entry)) && isRecord (now (numbers .entry))) (looking (now (table .entry)) count picture .result) ⌝ }
     ensures record { λ r. ⌜ now (numbers .exit) ≡ cond (eqb r 0 && looking (now (table .entry)) count picture .found) (flat (looking (now (table .entry)) count picture .«record»)) (now (numbers .entry)) ⌝ }
     ensures found { λ r. ⌜ now (found .exit) ≡ after r (bit (looking (now (table .entry)) count picture .found)) (now (found .entry)) ⌝ }
 {
@@ -240,7 +239,7 @@ pub extern "C" fn pim_join(
     table: &mut [i32],
     count: &mut u32,
 ) -> u32
-    ensures result { λ r. ⌜ r ≡ unless (isTable (now (first .entry)) && isTable (now (second .entry)) && isTable (now (table .entry))) (joining (now (first .entry)) «first_count» (now (second .entry)) «second_count» .result) ⌝ }
+    ensures result { λ r. ⌜ r ≡ ifSized (isTable (now (first .entry)) && isTable (now (second .entry)) && isTable (now (table .entry))) (joining (now (first .entry)) «first_count» (now (second .entry)) «second_count» .result) ⌝ }
     ensures table { λ r. ⌜ now (table .exit) ≡ after r (joinedTable (now (first .entry)) «first_count» (now (second .entry)) «second_count») (now (table .entry)) ⌝ }
     ensures count { λ r. ⌜ now (count .exit) ≡ after r (joining (now (first .entry)) «first_count» (now (second .entry)) «second_count» .count) (now (count .entry)) ⌝ }
 {

@@ -1,3 +1,4 @@
+pub mod Denied
 pub mod Merging
 pub mod Chosen
 pub mod Reaching

@@ -2,7 +2,7 @@
 use mathlib.Core.Path.{_≡_, refl, sym, _∙_, ap, subst}
 use mathlib.Core.Bool.{Bool, true, false, cond}
 use mathlib.Core.List.{List, [], _∷_, _++_, map, append-assoc, append-nil}
-use Prim.Native.Nat.{ℕ, zero, suc, _+_, _≤_, _<_}
+use Prim.Native.Nat.{ℕ, zero, suc, _+_, _-_, _≤_, _<_}
 use native.Mathlib.Nat.{zero-add, le-of-suc-le-suc, not-suc-le-zero}
 use native.Mathlib.Numerals.{add-one}
 use native.Mathlib.Omega.{arith}
@@ -11,12 +11,14 @@ use lib.Dec.{ltb}
 use lib.ListN.{length, take, drop, getD, set, length-set, length-append}
 use lib.Seq.{drop-cons, drop-drop, drop-set-lt, take-suc-set, length-take-le, take-all, getD-take}
 use lib.IntN.{ℤ, pos}
-use Rattle.keyed.specs.Keyed.{Compared, less, same, more}
+use Rattle.refusals.specs.Refusals.{tooManyPoints}
+use Rattle.keyed.specs.Keyed.{Compared, less, same, greater}
 use Rattle.keyed.proofs.Laws.{frontBy, join-front, nothing-joined}
+use Rattle.plan.specs.Limit.{mostPoints}
 use Rattle.plan.specs.Pictures.{Before, order, pictures}
 use Rattle.plan.specs.declared.Turn.{Turn}
 use Rattle.plan.specs.declared.Layout.{Layout}
-use Rattle.plan.specs.Planning.{Tag, tag, sourceOf, numberOf, tagsFrom, firstTags, secondTags, joinTags, RisingTags, Next, next, nextBy, nextOf, turnOf, clamped, noSources, refusal, layoutOf}
+use Rattle.plan.specs.Planning.{Tag, tag, sourceOf, pictureOf, tagsFrom, firstTags, secondTags, joinTags, RisingTags, Next, next, nextBy, nextOf, turnOf, clamped, noSources, refusedLayout, layoutOf}
 
 abbrev none : Tag
 none = tag 0 (pos 0)
@@ -60,11 +62,11 @@ module _ (A B : List Tag) (ra : RisingTags A) (rb : RisingTags B) (i j : ℕ) wh
     on = o;
   }
 
-  both-by : (x y : Tag) (t : Compared Before (numberOf x) (numberOf y)) → i < length A → j < length B → drop i A ≡ x ∷ drop (suc i) A → drop j B ≡ y ∷ drop (suc j) B
-      → joinTags (x ∷ drop (suc i) A) (y ∷ drop (suc j) B) ≡ frontBy pictures numberOf x (drop (suc i) A) y (drop (suc j) B) t → Fronted A B i j (nextBy x y t)
+  both-by : (x y : Tag) (t : Compared Before (pictureOf x) (pictureOf y)) → i < length A → j < length B → drop i A ≡ x ∷ drop (suc i) A → drop j B ≡ y ∷ drop (suc j) B
+      → joinTags (x ∷ drop (suc i) A) (y ∷ drop (suc j) B) ≡ frontBy pictures pictureOf x (drop (suc i) A) y (drop (suc j) B) t → Fronted A B i j (nextBy x y t)
   both-by x y (less h) ia jb ea eb f = fronted _ _ _ ea eb f (omega arith) (omega arith) (omega arith)
   both-by x y (same e) ia jb ea eb f = fronted _ _ _ ea eb f (omega arith) (omega arith) (omega arith)
-  both-by x y (more h) ia jb ea eb f = fronted _ _ _ ea eb f (omega arith) (omega arith) (omega arith)
+  both-by x y (greater h) ia jb ea eb f = fronted _ _ _ ea eb f (omega arith) (omega arith) (omega arith)
 
   module _ (x y : Tag) (hx : i < length A → x ≡ tagAt A i) (hy : j < length B → y ≡ tagAt B j) where
     open-a : i < length A → drop i A ≡ x ∷ drop (suc i) A
@@ -73,10 +75,10 @@ module _ (A B : List Tag) (ra : RisingTags A) (rb : RisingTags B) (i j : ℕ) wh
     open-b : j < length B → drop j B ≡ y ∷ drop (suc j) B
     open-b h = drop-cons B j none h ∙ ap (λ (p : Tag). p ∷ drop (suc j) B) (sym (hy h))
 
-    both-case : i < length A → j < length B → Fronted A B i j (nextBy x y (order (numberOf x) (numberOf y)))
+    both-case : i < length A → j < length B → Fronted A B i j (nextBy x y (order (pictureOf x) (pictureOf y)))
     both-case h g =
-        both-by x y (order (numberOf x) (numberOf y)) h g (open-a h) (open-b g)
-        (join-front pictures numberOf x (drop (suc i) A) y (drop (suc j) B) (subst RisingTags (open-a h) (rising-drop A i ra)) (subst RisingTags (open-b g) (rising-drop B j rb)))
+        both-by x y (order (pictureOf x) (pictureOf y)) h g (open-a h) (open-b g)
+        (join-front pictures pictureOf x (drop (suc i) A) y (drop (suc j) B) (subst RisingTags (open-a h) (rising-drop A i ra)) (subst RisingTags (open-b g) (rising-drop B j rb)))
 
     only-a : i < length A → length B ≤ j → j ≤ length B → Fronted A B i j (next x 1 0)
     only-a h g k = fronted (next x 1 0) (x ∷ drop (suc i) A) [] (open-a h) (gone B j g) refl (omega arith) (omega arith) (omega arith)
@@ -85,7 +87,7 @@ module _ (A B : List Tag) (ra : RisingTags A) (rb : RisingTags B) (i j : ℕ) wh
     only-b g k h =
         let rs : RisingTags (y ∷ drop (suc j) B) = subst RisingTags (open-b h) (rising-drop B j rb) in
         fronted (next y 0 1) [] (y ∷ drop (suc j) B) (gone A i g) (open-b h)
-        (nothing-joined pictures numberOf (y ∷ drop (suc j) B) rs ∙ ap (λ (u : List Tag). y ∷ u) (sym (nothing-joined pictures numberOf (drop (suc j) B) (rs .1))))
+        (nothing-joined pictures pictureOf (y ∷ drop (suc j) B) rs ∙ ap (λ (u : List Tag). y ∷ u) (sym (nothing-joined pictures pictureOf (drop (suc j) B) (rs .1))))
         (omega arith) (omega arith) (omega arith)
 
     by-tests : (p q : Bool) → ltb i (length A) ≡ p → ltb j (length B) ≡ q → i ≤ length A → j ≤ length B → i + j < length A + length B → Fronted A B i j (nextOf p x q y)
@@ -111,15 +113,15 @@ comes A B i j N f = record { front = ap (map sourceOf) (f .front); left = f .lef
 pub record Merging (J : List ℕ) (A B : List Tag) (out : List ℕ) (i j k : ℕ) : Type 0 where
   pub left : i ≤ length A
   pub right : j ≤ length B
-  pub count : k ≤ 64
-  pub size : length out ≡ 64
+  pub count : k ≤ mostPoints
+  pub size : length out ≡ mostPoints
   pub so-far : J ≡ take k out ++ map sourceOf (joinTags (drop i A) (drop j B))
   pub rest : drop k out ≡ drop k noSources
 
 pub begins : (A B : List Tag) → Merging (map sourceOf (joinTags A B)) A B noSources 0 0 0
 begins A B = record { left = omega arith; right = omega arith; count = omega arith; size = refl; so-far = refl; rest = refl }
 
-pub turns : (J : List ℕ) (A B : List Tag) (l : List ℕ) (i j k : ℕ) (N : Turn) → Merging J A B l i j k → Comes A B i j N → k < 64 → Merging J A B (set l k (N .source)) (i + N .left) (j + N .right) (k + 1)
+pub turns : (J : List ℕ) (A B : List Tag) (l : List ℕ) (i j k : ℕ) (N : Turn) → Merging J A B l i j k → Comes A B i j N → k < mostPoints → Merging J A B (set l k (N .source)) (i + N .left) (j + N .right) (k + 1)
 turns J A B l i j k N m f h =
     let p = N .source in
     let r = map sourceOf (joinTags (drop (i + N .left) A) (drop (j + N .right) B)) in
@@ -138,13 +140,13 @@ abbrev fitting : List ℕ → Layout
 fitting J = record { result = 0; count = length J; sources = J ++ drop (length J) noSources }
 
 -- the join is longer than 64
-pub too-long : (J : List ℕ) (A B : List Tag) (l : List ℕ) (i j k : ℕ) (N : Turn) → Merging J A B l i j k → Comes A B i j N → k ≡ 64 → layoutOf J ≡ refusal 15
+pub too-long : (J : List ℕ) (A B : List Tag) (l : List ℕ) (i j k : ℕ) (N : Turn) → Merging J A B l i j k → Comes A B i j N → k ≡ mostPoints → layoutOf J ≡ refusedLayout tooManyPoints
 too-long J A B l i j k N m f e =
     let r = map sourceOf (joinTags (drop (i + N .left) A) (drop (j + N .right) B)) in
     let whole : take k l ≡ l = take-all k l (let s = m .size in omega (arith, s, e)) in
     let long : length J ≡ length l + suc (length r) =
     (ap length (m .so-far ∙ ap (λ (u : List ℕ). u ++ map sourceOf (joinTags (drop i A) (drop j B))) whole ∙ ap (λ (u : List ℕ). l ++ u) (f .front)) ∙ length-append l (N .source ∷ r)) in
-    ap (λ (b : Bool). cond b (fitting J) (refusal 15)) (lt-leb (length J) 64 (let s = m .size in omega (arith, s, long)))
+    ap (λ (b : Bool). cond b (fitting J) (refusedLayout tooManyPoints)) (lt-leb (length J) mostPoints (let s = m .size in omega (arith, s, long)))
 
 pub ends : (J : List ℕ) (A B : List Tag) (l : List ℕ) (i j k : ℕ) → Merging J A B l i j k → length A + length B ≤ i + j → record { result = 0; count = k; sources = l } ≡ layoutOf J
 ends J A B l i j k m h =
@@ -158,7 +160,7 @@ ends J A B l i j k m h =
     (ap (λ (n : ℕ). J ++ drop n noSources) len ∙ ap (λ (u : List ℕ). J ++ u) (sym (m .rest)) ∙ ap (λ (u : List ℕ). u ++ drop k l) all ∙ take-drop k l) in
     ap (λ (n : ℕ). record { result = 0; count = n; sources = l }) (sym len)
     ∙ ap (λ (u : List ℕ). record { result = 0; count = length J; sources = u }) (sym pads)
-    ∙ ap (λ (b : Bool). cond b (fitting J) (refusal 15)) (sym (le-leb (length J) 64 (let c = m .count in omega (arith, c, len))))
+    ∙ ap (λ (b : Bool). cond b (fitting J) (refusedLayout tooManyPoints)) (sym (le-leb (length J) mostPoints (let c = m .count in omega (arith, c, len))))
   where
     take-drop : (n : ℕ) (u : List ℕ) → take n u ++ drop n u ≡ u
     take-drop zero u = refl
@@ -175,25 +177,25 @@ tags-at c [] i h = absurd (not-suc-le-zero h)
 tags-at c (z ∷ zs) zero h = ap (λ (n : ℕ). tag n z) (omega arith)
 tags-at c (z ∷ zs) (suc i) h = tags-at (suc c) zs i (le-of-suc-le-suc h) ∙ ap (λ (n : ℕ). tag n (getD zs i (pos 0))) (omega arith)
 
-clamp-in : (i e : ℕ) → e ≡ clamped i → i < 64 → e ≡ i
-clamp-in i e q h = q ∙ ap (λ (b : Bool). cond b i 63) (lt-ltb i 64 h)
+clamp-in : (i e : ℕ) → e ≡ clamped i → i < mostPoints → e ≡ i
+clamp-in i e q h = q ∙ ap (λ (b : Bool). cond b i (mostPoints - 1)) (lt-ltb i mostPoints h)
 
-tag-in : (c : ℕ) (l : List ℤ) (n i e : ℕ) → n ≤ 64 → n ≤ length l → e ≡ clamped i → i < n → tag (c + e) (getD l e (pos 0)) ≡ tagAt (tagsFrom c (take n l)) i
+tag-in : (c : ℕ) (l : List ℤ) (n i e : ℕ) → n ≤ mostPoints → n ≤ length l → e ≡ clamped i → i < n → tag (c + e) (getD l e (pos 0)) ≡ tagAt (tagsFrom c (take n l)) i
 tag-in c l n i e h s q g =
     let ln : length (take n l) ≡ n = length-take-le n l s in
     ap (λ (m : ℕ). tag (c + m) (getD l m (pos 0))) (clamp-in i e q (omega arith)) ∙ ap (tag (c + i)) (sym (getD-take n l i (pos 0) g)) ∙ sym (tags-at c (take n l) i (omega (arith, ln)))
 
-pub comes-at : (a b : List ℤ) (n m i j e f : ℕ) → n ≤ 64 → m ≤ 64 → length a ≡ 64 → length b ≡ 64 → RisingTags (firstTags n a) → RisingTags (secondTags m b)
+pub comes-at : (a b : List ℤ) (n m i j e f : ℕ) → n ≤ mostPoints → m ≤ mostPoints → length a ≡ mostPoints → length b ≡ mostPoints → RisingTags (firstTags n a) → RisingTags (secondTags m b)
     → e ≡ clamped i → f ≡ clamped j → i ≤ n → j ≤ m → i + j < n + m
-    → Comes (firstTags n a) (secondTags m b) i j (turnOf (nextOf (ltb i n) (tag e (getD a e (pos 0))) (ltb j m) (tag (64 + f) (getD b f (pos 0)))))
+    → Comes (firstTags n a) (secondTags m b) i j (turnOf (nextOf (ltb i n) (tag e (getD a e (pos 0))) (ltb j m) (tag (mostPoints + f) (getD b f (pos 0)))))
 comes-at a b n m i j e f hn hm la lb ra rb qe qf hi hj h =
     let x = tag e (getD a e (pos 0)) in
-    let y = tag (64 + f) (getD b f (pos 0)) in
+    let y = tag (mostPoints + f) (getD b f (pos 0)) in
     let ea : length (firstTags n a) ≡ n = tags-length 0 (take n a) ∙ length-take-le n a (omega arith) in
-    let eb : length (secondTags m b) ≡ m = tags-length 64 (take m b) ∙ length-take-le m b (omega arith) in
+    let eb : length (secondTags m b) ≡ m = tags-length mostPoints (take m b) ∙ length-take-le m b (omega arith) in
     comes (firstTags n a) (secondTags m b) i j (nextOf (ltb i n) x (ltb j m) y)
     (subst (λ (u : ℕ). Fronted (firstTags n a) (secondTags m b) i j (nextOf (ltb i u) x (ltb j m) y)) ea
     (subst (λ (u : ℕ). Fronted (firstTags n a) (secondTags m b) i j (nextOf (ltb i (length (firstTags n a))) x (ltb j u) y)) eb
     (fronts (firstTags n a) (secondTags m b) ra rb i j x y
-    (λ g. ap (λ (k : ℕ). tag k (getD a e (pos 0))) (sym (zero-add e)) ∙ tag-in 0 a n i e hn (omega arith) qe (omega (arith, ea))) (λ g. tag-in 64 b m j f hm (omega arith) qf (omega (arith, eb)))
+    (λ g. ap (λ (k : ℕ). tag k (getD a e (pos 0))) (sym (zero-add e)) ∙ tag-in 0 a n i e hn (omega arith) qe (omega (arith, ea))) (λ g. tag-in mostPoints b m j f hm (omega arith) qf (omega (arith, eb)))
     (omega (arith, ea)) (omega (arith, eb)) (omega (arith, ea, eb)))))

@@ -35,8 +35,8 @@ use Rattle.plan.proofs.seek.Kinds as seek
 use Rattle.plan.proofs.seek.Reads as seek-contract
 use Rattle.plan.proofs.is_found.Kinds as is-found
 use Rattle.plan.proofs.is_found.Reads as is-found-contract
-use Rattle.plan.proofs.at_of.Kinds as at-of
-use Rattle.plan.proofs.at_of.Reads as at-of-contract
+use Rattle.plan.proofs.entry_found.Kinds as entry-found
+use Rattle.plan.proofs.entry_found.Reads as entry-found-contract
 
 pub most-points-one : OneResult most-points.ps most-points.r most-points-contract.Post
 most-points-one κs a x y s t e f = e ∙ sym f
@@ -89,5 +89,5 @@ seek-one κs a x y s t e f = e ∙ sym f
 pub is-found-one : OneResult is-found.ps is-found.r is-found-contract.Post
 is-found-one κs a x y s t e f = e ∙ sym f
 
-pub at-of-one : OneResult at-of.ps at-of.r at-of-contract.Post
-at-of-one κs a x y s t e f = e ∙ sym f
+pub entry-found-one : OneResult entry-found.ps entry-found.r entry-found-contract.Post
+entry-found-one κs a x y s t e f = e ∙ sym f

@@ -5,7 +5,7 @@ use native.Mathlib.Nat.{le-antisymm, lt-trans, lt-irrefl}
 use lib.Dec.{T, ltb, ltb→lt, lt→ltb, nltb→le}
 use lib.IntN.{ℤ, pos, negsuc}
 use lib.Signed.{ltZ}
-use Rattle.keyed.specs.Keyed.{Order, Compared, less, same, more}
+use Rattle.keyed.specs.Keyed.{Order, Compared, less, same, greater}
 
 -- a picture comes before another in output order
 abbrev pub Before : ℤ → ℤ → Type 0
@@ -17,10 +17,10 @@ by false f g = g tt
 
 -- which of two numbers is the lesser
 unfoldable pub order : (a b : ℤ) → Compared Before a b
-order (pos a) (pos b) = by (ltb a b) (λ t. less t) (λ f. by (ltb b a) (λ t. more t) (λ g. same (ap pos (le-antisymm (nltb→le b a g) (nltb→le a b f)))))
-order (pos a) (negsuc b) = more tt
+order (pos a) (pos b) = by (ltb a b) (λ t. less t) (λ f. by (ltb b a) (λ t. greater t) (λ g. same (ap pos (le-antisymm (nltb→le b a g) (nltb→le a b f)))))
+order (pos a) (negsuc b) = greater tt
 order (negsuc a) (pos b) = less tt
-order (negsuc a) (negsuc b) = by (ltb b a) (λ t. less t) (λ f. by (ltb a b) (λ t. more t) (λ g. same (ap negsuc (le-antisymm (nltb→le b a f) (nltb→le a b g)))))
+order (negsuc a) (negsuc b) = by (ltb b a) (λ t. less t) (λ f. by (ltb a b) (λ t. greater t) (λ g. same (ap negsuc (le-antisymm (nltb→le b a f) (nltb→le a b g)))))
 
 pub before-irreflexive : (a : ℤ) → Before a a → ⊥
 before-irreflexive (pos a) h = lt-irrefl a (ltb→lt a a h)

@@ -5,7 +5,8 @@ use mathlib.Core.List.{List, [], _∷_, _++_, map}
 use lib.IntN.{ℤ}
 use lib.ListN.{length, take, drop, getD, replicate}
 use lib.Dec.{eqb, ltb, leb}
-use Rattle.keyed.specs.Keyed.{Compared, less, same, more, join, Rising}
+use Rattle.refusals.specs.Refusals.{unfitOutput, tooManyPoints, notATrack}
+use Rattle.keyed.specs.Keyed.{Compared, less, same, greater, join, Rising}
 use Rattle.plan.specs.declared.Scanned.{Scanned}
 use Rattle.plan.specs.declared.Layout.{Layout}
 use Rattle.plan.specs.declared.Turn.{Turn}
@@ -35,8 +36,8 @@ tag source picture = record { source = source; picture = picture }
 abbrev pub sourceOf : Tag → ℕ
 sourceOf t = t .source
 
-abbrev pub numberOf : Tag → ℤ
-numberOf t = t .picture
+abbrev pub pictureOf : Tag → ℤ
+pictureOf t = t .picture
 
 abbrev pub tagsFrom : ℕ → List ℤ → List Tag
 tagsFrom source [] = []
@@ -49,10 +50,10 @@ abbrev pub secondTags : ℕ → List ℤ → List Tag
 secondTags m l = tagsFrom mostPoints (take m l)
 
 abbrev pub joinTags : List Tag → List Tag → List Tag
-joinTags = join pictures numberOf
+joinTags = join pictures pictureOf
 
 abbrev pub RisingTags : List Tag → Type 0
-RisingTags = Rising pictures numberOf
+RisingTags = Rising pictures pictureOf
 
 -- ---- one turn of a join
 pub record Next : Type 0 where
@@ -64,14 +65,14 @@ abbrev pub next : Tag → ℕ → ℕ → Next
 next t l r = record { tag = t; left = l; right = r }
 
 -- the lesser number; the second's where they are equal, which takes both off
-abbrev pub nextBy : (x y : Tag) → Compared Before (numberOf x) (numberOf y) → Next
+abbrev pub nextBy : (x y : Tag) → Compared Before (pictureOf x) (pictureOf y) → Next
 nextBy x y (less _) = next x 1 0
 nextBy x y (same _) = next y 1 1
-nextBy x y (more _) = next y 0 1
+nextBy x y (greater _) = next y 0 1
 
 -- what comes first of x, which is there where p says so, and y, which is there where q says so
 abbrev pub nextOf : Bool → Tag → Bool → Tag → Next
-nextOf p x q y = cond q (cond p (nextBy x y (order (numberOf x) (numberOf y))) (next y 0 1)) (next x 1 0)
+nextOf p x q y = cond q (cond p (nextBy x y (order (pictureOf x) (pictureOf y))) (next y 0 1)) (next x 1 0)
 
 abbrev pub takenOff : ℕ → ℕ → ℕ → Turn
 takenOff source left right = record { source = source; left = left; right = right }
@@ -86,12 +87,12 @@ clamped i = cond (ltb i mostPoints) i (mostPoints - 1)
 abbrev pub noSources : List ℕ
 noSources = replicate mostPoints neither
 
-abbrev pub refusal : ℕ → Layout
-refusal number = record { result = number; count = 0; sources = noSources }
+abbrev pub refusedLayout : ℕ → Layout
+refusedLayout number = record { result = number; count = 0; sources = noSources }
 
 -- 15 for more than 64 different numbers
 abbrev pub layoutOf : List ℕ → Layout
-layoutOf l = cond (leb (length l) mostPoints) (record { result = 0; count = length l; sources = l ++ drop (length l) noSources }) (refusal 15)
+layoutOf l = cond (leb (length l) mostPoints) (record { result = 0; count = length l; sources = l ++ drop (length l) noSources }) (refusedLayout tooManyPoints)
 
 -- where the points of a join come from, in its order
 abbrev pub mergedSources : List ℤ → ℕ → List ℤ → ℕ → List ℕ
@@ -99,8 +100,8 @@ mergedSources a n b m = map sourceOf (joinTags (firstTags n a) (secondTags m b))
 
 -- 01, Refusal numbers: first track 16, second track 16, result table 13, then 15
 abbrev pub planOf : Scanned → ℕ → Scanned → ℕ → ℕ → Layout
-planOf s n t m length =
-    cond (s .track) (cond (t .track) (cond (eqb length mostPoints) (layoutOf (mergedSources (s .pictures) n (t .pictures) m)) (refusal 13)) (refusal 16)) (refusal 16)
+planOf s n t m entries =
+    cond (s .track) (cond (t .track) (cond (eqb entries mostPoints) (layoutOf (mergedSources (s .pictures) n (t .pictures) m)) (refusedLayout unfitOutput)) (refusedLayout notATrack)) (refusedLayout notATrack)
 
 -- how many entries are filled: none where it is refused
 abbrev pub boundOf : Layout → ℕ

@@ -10,14 +10,14 @@ use Rattle.plan.specs.Limit.{mostPoints}
 
 -- the table and the count may be a track's
 abbrev pub sized : ℕ → ℕ → Bool
-sized length count = eqb length mostPoints && leb count mostPoints
+sized entries count = eqb entries mostPoints && leb count mostPoints
 
 -- how many entries are looked at
 abbrev pub extentOf : ℕ → ℕ → ℕ
-extentOf length count = cond (sized length count) count 0
+extentOf entries count = cond (sized entries count) count 0
 
 abbrev pub begun : ℕ → ℕ → Scanned
-begun length count = record { track = sized length count; last = pos 0; pictures = replicate mostPoints (pos 0) }
+begun entries count = record { track = sized entries count; last = pos 0; pictures = replicate mostPoints (pos 0) }
 
 -- the first number has none before it, and each other is above the last
 abbrev pub risesAt : ℕ → ℤ → ℤ → Bool

@@ -1,19 +1,13 @@
 // What the track functions decide on picture numbers and places alone. No point is seen here.
+use refusals::Refusal;
 ghost use mathlib.Core.Path.{_≡_};
 ghost use mathlib.Core.Bool.{true};
 ghost use Prim.Native.Nat.{_+_, _<_, _≤_};
 ghost use lib.ListN.{take};
 ghost use Rattle.plan.specs.Limit.{mostPoints};
 ghost use Rattle.plan.specs.Scanning.{extentOf, begun, risesAt, noted};
-ghost use Rattle.plan.specs.Planning.{tag, RisingTags, firstTags, secondTags, takenOff, nextOf, turnOf, clamped, refusal, layoutOf, mergedSources, planOf, boundOf, sourceAt, leftOf, rightOf};
+ghost use Rattle.plan.specs.Planning.{tag, RisingTags, firstTags, secondTags, takenOff, nextOf, turnOf, clamped, refusedLayout, layoutOf, mergedSources, planOf, boundOf, sourceAt, leftOf, rightOf};
 ghost use Rattle.plan.specs.Seeking.{reachOf, seekOf};
-
-// 01, Refusal numbers.
-pub const WRONG_TABLE: u8 = 13;
-
-const TOO_MANY_POINTS: u8 = 15;
-
-const NOT_A_TRACK: u8 = 16;
 
 // A table has exactly this many entries, so a track has no more points.
 pub const POINTS: usize = 64;
@@ -39,20 +33,20 @@ pub struct Scanned {
 }
 
 // How many entries are looked at: none where the table or the count is no track's.
-pub fn extent(length: usize, count: usize) -> usize
-    ensures { λ r. ⌜ r ≡ extentOf length count ⌝ }
+pub fn extent(entries: usize, count: usize) -> usize
+    ensures { λ r. ⌜ r ≡ extentOf entries count ⌝ }
 {
-    if (length == POINTS) & (count <= POINTS) {
+    if (entries == POINTS) & (count <= POINTS) {
         return count;
     }
     0
 }
 
-pub fn begin(length: usize, count: usize) -> Scanned
-    ensures { λ r. ⌜ r ≡ begun length count ⌝ }
+pub fn begin(entries: usize, count: usize) -> Scanned
+    ensures { λ r. ⌜ r ≡ begun entries count ⌝ }
 {
     Scanned {
-        track: (length == POINTS) & (count <= POINTS),
+        track: (entries == POINTS) & (count <= POINTS),
         last: 0,
         pictures: [0; POINTS],
     }
@@ -137,11 +131,11 @@ fn take_off(source: u8, left: usize, right: usize) -> Turn
     }
 }
 
-// Of the first track's next number, which is there where `more` says so, and the second's, which is there where
+// Of the first track's next number, which is there where `remains` says so, and the second's, which is there where
 // `further` says so, the lesser; the second's where they are equal, and then both are done with.
-pub fn choose(more: bool, e: usize, x: i32, further: bool, f: usize, y: i32) -> Turn
+pub fn choose(remains: bool, e: usize, x: i32, further: bool, f: usize, y: i32) -> Turn
     requires { ⌜ (e < mostPoints) × (f < mostPoints) ⌝ }
-    ensures { λ r. ⌜ r ≡ turnOf (nextOf more (tag e x) further (tag (mostPoints + f) y)) ⌝ }
+    ensures { λ r. ⌜ r ≡ turnOf (nextOf remains (tag e x) further (tag (mostPoints + f) y)) ⌝ }
 {
     let first = e as u8;
     let place = f as u8;
@@ -149,7 +143,7 @@ pub fn choose(more: bool, e: usize, x: i32, further: bool, f: usize, y: i32) -> 
     if !further {
         return take_off(first, 1, 0);
     }
-    if !more {
+    if !remains {
         return take_off(second, 0, 1);
     }
     if x < y {
@@ -169,7 +163,7 @@ pub fn clamp(index: usize) -> usize
 }
 
 pub fn refused(number: u8) -> Layout
-    ensures { λ r. ⌜ r ≡ refusal number ⌝ }
+    ensures { λ r. ⌜ r ≡ refusedLayout number ⌝ }
 {
     Layout {
         result: number,
@@ -189,7 +183,7 @@ pub fn merge(a: [i32; POINTS], n: usize, b: [i32; POINTS], m: usize) -> Layout
     let mut k: usize = 0;
     while i + j < n + m {
         if k == POINTS {
-            return refused(TOO_MANY_POINTS);
+            return refused(Refusal::TOO_MANY_POINTS);
         }
         let e = clamp(i);
         let x = a[e];
@@ -209,18 +203,18 @@ pub fn merge(a: [i32; POINTS], n: usize, b: [i32; POINTS], m: usize) -> Layout
 }
 
 // The first track, the second, the result's table, and then the number of points.
-pub fn decide(s: Scanned, n: usize, t: Scanned, m: usize, length: usize) -> Layout
+pub fn decide(s: Scanned, n: usize, t: Scanned, m: usize, entries: usize) -> Layout
     requires { ⌜ (s .track ≡ true → (n ≤ mostPoints) × RisingTags (firstTags n (s .pictures))) × (t .track ≡ true → (m ≤ mostPoints) × RisingTags (secondTags m (t .pictures))) ⌝ }
-    ensures { λ r. ⌜ r ≡ planOf s n t m length ⌝ }
+    ensures { λ r. ⌜ r ≡ planOf s n t m entries ⌝ }
 {
     if !s.track {
-        return refused(NOT_A_TRACK);
+        return refused(Refusal::NOT_A_TRACK);
     }
     if !t.track {
-        return refused(NOT_A_TRACK);
+        return refused(Refusal::NOT_A_TRACK);
     }
-    if length != POINTS {
-        return refused(WRONG_TABLE);
+    if entries != POINTS {
+        return refused(Refusal::UNFIT_OUTPUT);
     }
     let a = s.pictures;
     let b = t.pictures;
@@ -244,19 +238,19 @@ pub fn reach(pictures: [i32; POINTS], n: usize, picture: i32) -> usize
 }
 
 // The place of the point in force, where there is one.
-pub struct Found {
+pub struct Sought {
     pub result: u8,
     pub found: bool,
     pub at: usize,
 }
 
-pub fn seek(seen: Scanned, n: usize, picture: i32) -> Found
+pub fn seek(seen: Scanned, n: usize, picture: i32) -> Sought
     requires { ⌜ (seen .track ≡ true → n ≤ mostPoints) ⌝ }
     ensures { λ r. ⌜ r ≡ seekOf seen n picture ⌝ }
 {
     if !seen.track {
-        return Found {
-            result: NOT_A_TRACK,
+        return Sought {
+            result: Refusal::NOT_A_TRACK,
             found: false,
             at: 0,
         };
@@ -264,26 +258,26 @@ pub fn seek(seen: Scanned, n: usize, picture: i32) -> Found
     let pictures = seen.pictures;
     let k = reach(pictures, n, picture);
     if k == 0 {
-        return Found {
+        return Sought {
             result: 0,
             found: false,
             at: 0,
         };
     }
-    Found {
+    Sought {
         result: 0,
         found: true,
         at: k - 1,
     }
 }
 
-pub fn is_found(f: Found) -> bool
+pub fn is_found(f: Sought) -> bool
     ensures { λ r. ⌜ r ≡ f .found ⌝ }
 {
     f.found
 }
 
-pub fn at_of(f: Found) -> usize
+pub fn entry_found(f: Sought) -> usize
     ensures { λ r. ⌜ r ≡ f .at ⌝ }
 {
     f.at

@@ -1,6 +1,10 @@
 pub mod Reading
+pub mod Reasons
 pub mod Writing
 pub mod Starred
 pub mod Listing
 pub mod TrackLaws
+pub mod Shown
+pub mod Joining
+pub mod Placing
 pub mod Tracks

@@ -7,15 +7,16 @@ use native.Mathlib.Omega.{arith}
 use borrow.Author.Tests.{eqb-true, eqb-false}
 use lib.Dec.{eqb}
 use lib.ListN.{length, drop}
-use Rattle.bits.specs.Bits.{Bytes}
-use Rattle.record.specs.Valid.{among, valid}
-use Rattle.syntax.specs.Data.{dataNumbers}
+use Rattle.tree.specs.Bits.{Bytes, bitsOf}
+use Rattle.output.specs.Output.{written}
+use Rattle.output.proofs.Output.{done}
+use Rattle.valid.specs.Valid.{among, valid}
+use Rattle.syntax.specs.Reason.{wrappedNumbers}
+use Rattle.syntax.specs.Wrapper.{wrappedData, wrappedPayload}
 use Rattle.syntax.proofs.Largest.{most-bits}
 use Rattle.reader.specs.declared.Reading.{Reading}
-use Rattle.writer.proofs.Answers.{written, done}
-use Rattle.wrapper.specs.Wrapper.{wrappedData, wrappedPayload}
 use Rattle.listing.specs.Listing.{listing, listable}
-use Rattle.listing.proofs.Longest.{most-bytes}
+use Rattle.listing.proofs.Longest.{no-listing-is-longer, longest-bytes}
 use Rattle.listing.proofs.Different.{accepted-is-given, one-listing-one-reading}
 use Rattle.promises.specs.Functions.{readWrapped, writeListing, listingBuffer}
 use Rattle.promises.proofs.Reading.{wrapped-data-gets-a-listed-number, a-refusal-is-empty, accepted-wrapped-means-the-one-payload}
@@ -42,9 +43,9 @@ among-bytes n (m ∷ ns) h e = go (eqb n m) refl (among-bytes n ns (h .1))
 
 -- a number is one byte
 one-byte : (s : List ℕ) → readWrapped s .result < 256
-one-byte s = among-bytes (readWrapped s .result) (0 ∷ 3 ∷ dataNumbers) small (wrapped-data-gets-a-listed-number s)
+one-byte s = among-bytes (readWrapped s .result) (0 ∷ wrappedNumbers) small (wrapped-data-gets-a-listed-number s)
   where
-    small : Bytes (0 ∷ 3 ∷ dataNumbers)
+    small : Bytes (0 ∷ wrappedNumbers)
     small = (omega arith, (omega arith, (omega arith, (omega arith, (omega arith, (omega arith, (omega arith, (omega arith, (omega arith, (omega arith, (omega arith, (omega arith, (omega arith, tt)))))))))))))
 
 -- what is read can be listed, and its bits are few
@@ -55,7 +56,7 @@ listable-bits s h = go (eqb (readWrapped s .result) 0) refl
     go true e =
         let a = accepted-wrapped-means-the-one-payload s h (eqb-true (readWrapped s .result) 0 e) in
         (a .0 .valid-record, omega (arith, a .2, most-bits (readWrapped s .«record») (a .0)))
-    go false e = (refl, omega (arith, a-refusal-is-empty (wrappedData s) (eqb-false (readWrapped s .result) 0 e) .1))
+    go false e = (refl, omega (arith, a-refusal-is-empty (wrappedData (bitsOf s)) (eqb-false (readWrapped s .result) 0 e) .1))
 
 -- 1,586 bytes have room for the listing of every input, and a write leaves what lies behind it
 pub room-of-1586-suffices : (s : List ℕ) → Bytes s → (out : List ℕ) → 1586 ≤ length out
@@ -63,6 +64,6 @@ pub room-of-1586-suffices : (s : List ℕ) → Bytes s → (out : List ℕ) → 
     × (listingBuffer (readWrapped s) out ≡ listing (readWrapped s) ++ drop (length (listing (readWrapped s))) out)
 room-of-1586-suffices s h out room =
     let l = listable-bits s h in
-    let m = most-bytes (readWrapped s) (one-byte s) (l .1) (l .0) in
-    let d = done (listing (readWrapped s)) (listable (readWrapped s)) out (l .0) (omega (arith, m, room)) in
+    let m = no-listing-is-longer (readWrapped s) (one-byte s) (l .1) (l .0) in
+    let d = done (listing (readWrapped s)) (listable (readWrapped s)) out (l .0) (omega (arith, m, longest-bytes, room)) in
     (sym (d .0), sym (d .1))

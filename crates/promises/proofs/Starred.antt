@@ -1,53 +1,60 @@
--- The starred payloads of document 01, as one table under one statement.
-use Prim.Native.Nat.{ℕ}
-use mathlib.Core.Path.{_≡_, refl}
+-- The starred payloads of document 01, and the limits and the order of refusals, as one table each under one statement: of what the
+-- functions answer.
+use mathlib.Core.Path.{_≡_, refl, ap, sym, _∙_}
 use mathlib.Core.List.{List, [], _∷_, map}
-use mathlib.Core.Bool.{true, false}
-use Rattle.bits.specs.Bits.{bitsOf, code, valueFrom}
-use Rattle.bits.specs.Reading.{u, i, ue, zeros, zerosThenOne}
-use Rattle.bits.specs.Coding.{fields, totalWidth}
-use Rattle.record.specs.declared.Block.{Block}
-use Rattle.record.specs.declared.Block.the-variants.{Level1, Level5}
-use Rattle.record.specs.Valid.{emptyRecord, mayFollow, many, targets, among}
-use Rattle.record.specs.Made.{recordOf}
-use Rattle.syntax.specs.Data.{«ST2094-10_data», blockCount, refreshFlag, appVersion, appIdentifier, content, body, block, blocksAfter, headAndBlocks, wholeBytes}
+use Rattle.tree.specs.Bits.{bitsOf}
+use Rattle.tree.specs.Reading.{Out, ok, no}
+use Rattle.record.specs.declared.Record.{Record}
+use Rattle.record.specs.Name.{Name}
+use Rattle.record.specs.Blocks.{emptyRecord}
+use Rattle.syntax.specs.Data.{bareData}
+use Rattle.syntax.specs.Wrapper.{wrappedData}
+use Rattle.syntax.specs.Limits.{Outcome, accepted, refused, outcomeOf, Case, limits, longPayloads, starred, wrappedCases}
+use Rattle.syntax.proofs.Limits as tree
 use Rattle.reader.specs.declared.Reading.{Reading}
-use Rattle.promises.specs.Functions.{readBare}
+use Rattle.reader.specs.Reading.{readingOf}
+use Rattle.promises.specs.Functions.{readBare, readWrapped}
 
-pub record Case : Type 0 where
-  pub bytes : List ℕ
-  pub outcome : Reading
+-- the answer that an outcome is
+abbrev pub answerFor : Outcome → Reading
+answerFor (accepted r bits) = record { result = 0; bits = bits; «record» = r }
+answerFor (refused n) = record { result = n; bits = 0; «record» = emptyRecord }
 
-abbrev refused : ℕ → Reading
-refused n = record { result = n; bits = 0; «record» = emptyRecord }
+abbrev pub expected : Case → Reading
+expected c = answerFor (c .outcome)
 
-abbrev accepted : ℕ → List Block → Reading
-accepted bits bs = record { result = 0; bits = bits; «record» = recordOf true bs }
+abbrev pub bare : Case → Reading
+bare c = readBare (c .bytes)
 
-abbrev pub starred : List Case
-starred =
-    record { bytes = []; outcome = refused 1 }
-    ∷ record { bytes = 0x00 ∷ []; outcome = refused 1 }
-    ∷ record { bytes = 0x00 ∷ 0x00 ∷ []; outcome = refused 2 }
-    ∷ record { bytes = 0x50 ∷ []; outcome = record { result = 0; bits = 8; «record» = recordOf false [] } }
-    ∷ record { bytes = 0x51 ∷ []; outcome = refused 7 }
-    ∷ record { bytes = 0x5C ∷ []; outcome = accepted 8 [] }
-    ∷ record { bytes = 0x5A ∷ 0x30 ∷ 0x08 ∷ 0x00 ∷ 0x60 ∷ 0x02 ∷ 0x00 ∷ 0x00 ∷ []; outcome = accepted 64 (Level1 0 3072 1024 ∷ []) }
-    ∷ record { bytes = 0x5A ∷ 0x30 ∷ 0x08 ∷ 0x00 ∷ 0x60 ∷ 0x02 ∷ 0x00 ∷ 0x01 ∷ []; outcome = refused 7 }
-    ∷ record { bytes = 0x5A ∷ 0x30 ∷ 0x08 ∷ 0x00 ∷ 0x60 ∷ 0x02 ∷ 0x00 ∷ 0x00 ∷ 0x00 ∷ []; outcome = refused 12 }
-    ∷ record { bytes = 0x5A ∷ 0x30 ∷ 0x08 ∷ 0x00 ∷ 0x20 ∷ 0x06 ∷ 0x00 ∷ 0x00 ∷ []; outcome = refused 10 }
-    ∷ record { bytes = 0x5A ∷ 0x10 ∷ 0x0A ∷ 0x00 ∷ 0x00 ∷ 0x00 ∷ 0x04 ∷ 0x50 ∷ 0x22 ∷ 0x80 ∷ []; outcome = accepted 80 (Level5 0 0 276 276 ∷ []) }
-    ∷ record { bytes = 0x58 ∷ 0x50 ∷ []; outcome = refused 6 }
-    ∷ record { bytes = 0x5A ∷ 0x81 ∷ 0x80 ∷ []; outcome = refused 8 }
-    ∷ []
+abbrev pub wrapped : Case → Reading
+wrapped c = readWrapped (c .bytes)
 
-abbrev read : Case → Reading
-read c = readBare (c .bytes)
+answered : (o : Out Name Record) → readingOf o ≡ answerFor (outcomeOf o)
+answered (ok r n) = refl
+answered (no f) = refl
 
-abbrev expected : Case → Reading
-expected c = c .outcome
+each : {A B : Type 0} (f : Case → A) (g : B → A) (h : Case → B) → ((c : Case) → f c ≡ g (h c)) → (l : List Case) → map f l ≡ map g (map h l)
+each f g h e [] = refl
+each f g h e (c ∷ l) = rw (e c, each f g h e l)
+
+module _ (l : List Case) where
+  bare-cases : map tree.found l ≡ map tree.expected l → map bare l ≡ map expected l
+  bare-cases e = each bare answerFor tree.found (λ c. answered (bareData (bitsOf (c .bytes)))) l ∙ ap (map answerFor) e ∙ sym (each expected answerFor tree.expected (λ c. refl) l)
+
+  wrapped-cases : map tree.foundWrapped l ≡ map tree.expected l → map wrapped l ≡ map expected l
+  wrapped-cases e = each wrapped answerFor tree.foundWrapped (λ c. answered (wrappedData (bitsOf (c .bytes)))) l ∙ ap (map answerFor) e ∙ sym (each expected answerFor tree.expected (λ c. refl) l)
 
 -- each starred payload gets the outcome that document 01 gives
-pub the-starred-cases : map read starred ≡ map expected starred
-unfolding bitsOf code valueFrom u i ue zeros zerosThenOne fields totalWidth mayFollow many targets among «ST2094-10_data» blockCount refreshFlag appVersion appIdentifier content body block blocksAfter headAndBlocks wholeBytes
-the-starred-cases = refl
+pub the-starred-cases : map bare starred ≡ map expected starred
+the-starred-cases = bare-cases starred tree.the-starred-cases
+
+-- each limit on both sides, each pair in the order of refusals, each field
+pub the-limits-and-the-order : map bare limits ≡ map expected limits
+the-limits-and-the-order = bare-cases limits tree.the-limits-and-the-order
+
+pub sixteen-of-level-2-and-no-more : map bare longPayloads ≡ map expected longPayloads
+sixteen-of-level-2-and-no-more = bare-cases longPayloads tree.sixteen-of-level-2-and-no-more
+
+-- the wrapped examples
+pub the-wrapped-cases : map wrapped wrappedCases ≡ map expected wrappedCases
+the-wrapped-cases = wrapped-cases wrappedCases tree.the-wrapped-cases

@@ -10,8 +10,9 @@ use lib.Dec.{eqb, leb}
 use lib.IntN.{ℤ}
 use lib.ListN.{length, drop, replicate, length-append, length-drop, length-replicate}
 use lib.Seq.{take-at, length-take-le}
+use Rattle.refusals.specs.Refusals.{unfitOutput, tooManyPoints, notATrack}
 use Rattle.record.proofs.Laws.{and-left, and-right, and-both}
-use Rattle.keyed.specs.Keyed.{Compared, less, same, more, heldAtBy}
+use Rattle.keyed.specs.Keyed.{Compared, less, same, greater, heldAtBy}
 use Rattle.keyed.proofs.Laws.{some-one, some-none}
 use Rattle.keyed.proofs.Mapped.{All, join-all}
 use Rattle.plan.specs.Limit.{mostPoints}
@@ -56,7 +57,7 @@ pub as-many-as-counted : (t : Table) → Track t → length (points t) ≡ t .co
 as-many-as-counted t v = let p = parts t v in length-take-le (t .count) (t .entries) (let f = p .full in let g = p .few in omega arith)
 
 -- ---- a join that is done
-done : (p q s t : Bool) → _≡_ {A = ℕ} (cond p (cond q (cond s (cond t 0 15) 13) 16) 16) 0 → (p ≡ true) × ((q ≡ true) × ((s ≡ true) × (t ≡ true)))
+done : (p q s t : Bool) → _≡_ {A = ℕ} (cond p (cond q (cond s (cond t 0 tooManyPoints) unfitOutput) notATrack) notATrack) 0 → (p ≡ true) × ((q ≡ true) × ((s ≡ true) × (t ≡ true)))
 done true true true true e = (refl, (refl, (refl, refl)))
 done true true true false e = absurd (omega arith)
 done true true false t e = absurd (omega arith)
@@ -91,10 +92,10 @@ join-stands a b ea eb = of-all (joinPoints a b) (join-all pictures number Stands
 -- ---- a join of tracks, into a table of 64 entries
 -- 0 and the count where the list is within the limit, and else 15
 abbrev pub outcome : List Point → Joined
-outcome l = joinedAt (cond (leb (length l) mostPoints) 0 15) l
+outcome l = joinedAt (cond (leb (length l) mostPoints) 0 tooManyPoints) l
 
 answer-at : (p q s : Bool) (l : List Point) → p ≡ true → q ≡ true → s ≡ true
-    → joinedAt (cond p (cond q (cond s (cond (leb (length l) mostPoints) 0 15) 13) 16) 16) l ≡ outcome l
+    → joinedAt (cond p (cond q (cond s (cond (leb (length l) mostPoints) 0 tooManyPoints) unfitOutput) notATrack) notATrack) l ≡ outcome l
 answer-at true true true l ep eq es = refl
 answer-at true true false l ep eq es = let z : _≡_ {A = ℕ} 0 1 = cc in absurd (omega arith)
 answer-at true false s l ep eq es = let z : _≡_ {A = ℕ} 0 1 = cc in absurd (omega arith)
@@ -107,7 +108,7 @@ answer-is a b result va vb e = answer-at _ _ _ (joinPoints (points a) (points b)
 held-by : (k : ℤ) (x y : Point) (rest : Option Point) (t : Compared Before k (number y)) → (rest ≡ some x → number x ≡ k) → heldAtBy pictures number y rest t ≡ some x → number x ≡ k
 held-by k x y rest (less _) h e = h e
 held-by k x y rest (same q) h e = ap number (sym (some-one pictures number e)) ∙ sym q
-held-by k x y rest (more _) h e = h e
+held-by k x y rest (greater _) h e = h e
 
 pub held-number : (k : ℤ) (l : List Point) (x : Point) → pointAtNumber k l ≡ some x → number x ≡ k
 held-number k [] x e = absurd (some-none pictures number (sym e))

@@ -6,16 +6,16 @@ use mathlib.Core.Bool.{true, false}
 use native.Mathlib.Omega.{arith}
 use lib.ListN.{length, take, drop}
 use lib.Seq.{take-at}
-use Rattle.bits.specs.Bits.{Bytes}
+use Rattle.tree.specs.Bits.{Bytes}
+use Rattle.output.specs.declared.Written.{Written}
+use Rattle.output.specs.Output.{written}
+use Rattle.output.proofs.Output.{done, short, bad}
 use Rattle.record.specs.declared.Record.{Record}
-use Rattle.record.specs.Valid.{valid}
+use Rattle.valid.specs.Valid.{valid, Proper}
 use Rattle.syntax.specs.Element.{payload, bitsOfData}
 use Rattle.syntax.specs.Largest.{largest}
-use Rattle.syntax.proofs.Exact.{Proper}
+use Rattle.syntax.specs.Wrapper.{wrappedPayload}
 use Rattle.syntax.proofs.Largest.{no-payload-is-longer, largest-length, largest-proper}
-use Rattle.writer.specs.declared.Written.{Written}
-use Rattle.writer.proofs.Answers.{written, done, short, bad}
-use Rattle.wrapper.specs.Wrapper.{wrappedPayload}
 use Rattle.promises.specs.Functions.{readBare, readWrapped, writeBare, bareBuffer, writeWrapped, wrappedBuffer}
 use Rattle.promises.proofs.Reading.{accepted-means-the-one-payload, every-valid-record-is-read, accepted-wrapped-means-the-one-payload, every-valid-record-is-read-wrapped}
 

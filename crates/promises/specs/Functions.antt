@@ -1,23 +1,24 @@
 -- What the functions answer, as their contracts say.
 use Prim.Native.Nat.{ℕ}
 use mathlib.Core.List.{List}
-use Rattle.bits.specs.Bits.{bitsOf}
+use Rattle.tree.specs.Bits.{bitsOf}
+use Rattle.output.specs.declared.Written.{Written}
+use Rattle.output.specs.Output.{writtenAs, bufferAs}
 use Rattle.record.specs.declared.Record.{Record}
-use Rattle.record.specs.Valid.{valid}
-use Rattle.syntax.specs.Data.{«ST2094-10_data»}
+use Rattle.valid.specs.Valid.{valid}
+use Rattle.syntax.specs.Data.{bareData}
+use Rattle.syntax.specs.Wrapper.{wrappedData, wrappedPayload}
 use Rattle.reader.specs.declared.Reading.{Reading}
 use Rattle.reader.specs.Reading.{readingOf}
-use Rattle.writer.specs.declared.Written.{Written}
-use Rattle.writer.specs.Writing.{writtenOf, bufferAfter, writtenAs, bufferAs}
-use Rattle.wrapper.specs.Wrapper.{wrappedData, wrappedPayload}
+use Rattle.writer.specs.Writing.{writtenOf, bufferAfter}
 use Rattle.listing.specs.Listing.{listing, listable}
 
 -- reader::read_data and wrapper::read_wrapped
 abbrev pub readBare : List ℕ → Reading
-readBare s = readingOf («ST2094-10_data» (bitsOf s))
+readBare s = readingOf (bareData (bitsOf s))
 
 abbrev pub readWrapped : List ℕ → Reading
-readWrapped s = readingOf (wrappedData s)
+readWrapped s = readingOf (wrappedData (bitsOf s))
 
 -- writer::write_data and wrapper::write_wrapped: the answer, and the buffer afterwards
 abbrev pub writeBare : Record → List ℕ → Written

@@ -1,17 +1,19 @@
--- Joins one after the other, as the contract of track::join says.
+-- Lent tables with their counts, and what the contracts of track::lookup, track::join and track::place say of them.
 use Prim.Native.Nat.{ℕ}
 use mathlib.Core.Path.{_≡_}
 use mathlib.Core.Bool.{Bool, true, false, cond}
-use mathlib.Core.List.{List}
+use mathlib.Core.List.{List, _++_, map}
 use mathlib.Core.Option.{Option, none, some}
 use lib.Dec.{eqb}
 use lib.IntN.{ℤ}
 use lib.Signed.{ltZ}
 use lib.ListN.{length}
+use Rattle.keyed.specs.Keyed.{different}
+use Rattle.plan.specs.Pictures.{pictures}
 use Rattle.track.specs.declared.Point.{Point}
 use Rattle.track.specs.declared.Joined.{Joined}
 use Rattle.track.specs.declared.InForce.{InForce}
-use Rattle.track.specs.Track.{number, isTrack, lookupAnswer, joinAnswer, joinTable, pointsOf, pointInForce, pointAtNumber}
+use Rattle.track.specs.Track.{number, isTrack, lookupAnswer, joinAnswer, joinTable, placeAnswer, placeTable, pointsOf, pointInForce, pointAtNumber}
 
 -- a lent table with its count
 pub record Table : Type 0 where
@@ -28,6 +30,12 @@ Track t = isTrack (t .entries) (t .count) ≡ true
 -- its points: what lies past the count is ignored
 abbrev pub points : Table → List Point
 points t = pointsOf (t .entries) (t .count)
+
+-- two tables of one length, with one count and the same points: they differ in what lies past the count, if at all
+pub record Alike (s t : Table) : Type 0 where
+  pub length-same : length (s .entries) ≡ length (t .entries)
+  pub count-same : s .count ≡ t .count
+  pub points-same : points s ≡ points t
 
 -- what a lookup answers
 abbrev pub at : Table → ℤ → InForce
@@ -55,6 +63,10 @@ answer a b result = joinAnswer (a .entries) (a .count) (b .entries) (b .count) (
 abbrev pub joined : Table → Table → List Point → Table
 joined a b result = table (joinTable result (a .entries) (a .count) (b .entries) (b .count)) (answer a b result .count)
 
+-- how many different picture numbers two tracks have
+abbrev pub numbersIn : Table → Table → ℕ
+numbersIn a b = different pictures (map number (points a) ++ map number (points b))
+
 -- two joins in turn: the second is made where the first is done
 abbrev pub inTurn : Joined → Joined → Joined
 inTurn x y = cond (eqb (x .result) 0) y x
@@ -70,3 +82,7 @@ rightFirst a b c s t = inTurn (answer b c s) (answer a (joined b c s) t)
 -- both hold equal records at every number that they share
 abbrev pub EqualWhereShared : Table → Table → Type 0
 EqualWhereShared a b = (k : ℤ) (x y : Point) → pointAtNumber k (points a) ≡ some x → pointAtNumber k (points b) ≡ some y → x .«record» ≡ y .«record»
+
+-- the lent table after a placing, with the count that was answered
+abbrev pub placed : Point → List Point → Table
+placed x old = table (placeTable old x) (placeAnswer x (length old) .count)

@@ -1,272 +1,180 @@
--- Laws by which reading meets its definition.
-use Prim.Native.Nat.{ℕ, zero, suc, _+_, _-_, _*_, _<_, _≤_}
+-- Laws by which reading meets its tables.
+use Prim.Native.Nat.{ℕ, suc, _+_, _-_, _*_, _/_, _%_, _<_, _≤_}
 use mathlib.Core.Path.{_≡_, refl, ap, sym, _∙_}
 use mathlib.Core.List.{List, [], _∷_, _++_, append-assoc, append-nil}
-use mathlib.Core.Bool.{Bool, true, false, cond}
+use mathlib.Core.Bool.{Bool, true, false}
 use native.Mathlib.Omega.{arith}
-use native.Mathlib.Nat.{add-zero}
-use borrow.Author.Tests.{leb-true, le-leb, lt-leb, eq-eqb, ne-eqb}
-use lib.Dec.{eqb, leb}
-use lib.ListN.{length, take, drop, length-append, length-drop}
+use native.Mathlib.Nat.{zero-add, add-zero, add-assoc}
+use borrow.Author.Tests.{eq-eqb, ne-eqb}
+use lib.ListN.{length, take, drop, length-append}
 use lib.Seq.{drop-drop}
-use Rattle.bits.specs.declared.Refusal.{Refusal}
+use Rattle.refusals.specs.Refusals.{refusal, repeated, bytesRemain}
+use Rattle.refusals.specs.declared.Refusal.{Refusal}
+use Rattle.tree.specs.Codes.{halvings}
+use Rattle.tree.specs.Reading.{Fault, numberIn, breaks, Out, ok, no, widened, andThen, mapped, toBoundary}
+use Rattle.tree.specs.Coding.{totalWidth}
+use Rattle.tree.specs.Syntax.{Syntax, done, zeroBits, alignment, readWhole, read, _>>=_}
+use Rattle.tree.specs.Meaning.{fieldElements, sumOfWidths, Means}
+use Rattle.tree.proofs.Truth.{clash, range-of-one}
+use Rattle.tree.proofs.Meaning.{widths-append, every-answer-is-true}
+use Rattle.tree.proofs.Tables.{read-then}
 use Rattle.bits.specs.declared.Number.the-variants.{Is as IsNumber, Refused as RefusedNumber}
-use Rattle.bits.specs.Reading.{Out, ok, no, Reader, more, andThen, mapped, u, ue, zeros, toBoundary, aligned, numberOf}
-use Rattle.bits.specs.Codes.{Takes}
-use Rattle.bits.proofs.Codes.{no-not-ok}
-use Rattle.bits.proofs.Reading.{is-ok, is-no, more-none}
-use Rattle.bits.proofs.Takes.{takes-u, takes-ue, takes-no, takes-ok, takes-test, takes-map, takes-then, takes-aligned}
+use Rattle.bits.specs.Answer.{nameless, spanOf}
+use Rattle.bits.proofs.Reading.{spans-ok, spans-no, named-zeros, widened-none, widened-twice}
 use Rattle.record.specs.declared.Block.{Block}
+use Rattle.record.specs.declared.Block.the-variants.{Nothing, Level1, Level2, Level5}
 use Rattle.record.specs.declared.Record.{Record}
-use Rattle.record.specs.Valid.{mostBlocks, noBlocks, allBlocks, mayFollow, withBlock}
+use Rattle.record.specs.Name.{Name, «dm_alignment_zero_bit»}
 use Rattle.record.specs.Made.{recordOf}
-use Rattle.record.proofs.Made.{made-more, blocks-made}
-use Rattle.syntax.specs.Data.{mostZeros, Head, blockCount, refreshFlag, appVersion, appIdentifier, someBlocks, block, blocksAfter, headAndBlocks, wholeBytes, «ST2094-10_data», wrongIdentifier, wrongVersion, tooManyBlocks, repeated, bytesRemain}
-use Rattle.block.specs.Step.{stepOf}
-use Rattle.block.specs.declared.Step.the-variants.{Is as IsBlock, Refused as RefusedBlock}
-use Rattle.block.proofs.Laws.{step-ok, step-no, takes-block}
-use Rattle.reader.specs.declared.Opening.the-variants.{Is, Refused}
+use Rattle.record.specs.Blocks.{mostBlocks, noBlocks, allBlocks}
+use Rattle.valid.specs.Valid.{isBlock, mayFollow, withBlock}
+use Rattle.valid.proofs.Made.{made-more, blocks-made}
+use Rattle.syntax.specs.Data.{Head, block, blocksAfter, head, firstAlignment, «ST2094-10_data», bareData}
+use Rattle.syntax.specs.Element.{blockElements, blocksElements, elements}
+use Rattle.syntax.proofs.Blocks.{behind, blocks-only}
+use Rattle.syntax.proofs.Steps.{read-may-follow, read-may-not-follow}
+use Rattle.syntax.proofs.Exact.{afterHead, afterFirst, data-spells, whole}
+use Rattle.syntax.proofs.Largest.{most-bits}
+use Rattle.fields.specs.Step.{stepOf}
+use Rattle.fields.specs.declared.Step.the-variants.{Is as IsBlock, Refused as RefusedBlock}
+use Rattle.fields.proofs.Laws.{step-ok, step-no}
+use Rattle.block.proofs.Laws.{blockBits, accepted-few, accepted-is-block}
+use Rattle.head.specs.Opening.{opening, alignedHead}
+use Rattle.head.proofs.Laws.{opening-few, zeros-took}
 use Rattle.reader.specs.declared.Found.{Found}
-use Rattle.reader.specs.Reading.{openingOf, foundOf, readingOf}
+use Rattle.reader.specs.Reading.{foundOf, refusedFound, readingOf, refusedReading, headAndBlocks}
 
 -- ---- answers
 
--- what an answer says of the reading that it is of
-pub opening-ok : (o : Out Head) (flag : Bool) (count n : ℕ) → Is flag count n ≡ openingOf o → o ≡ ok (record { refresh = flag; count = count }) n
-opening-ok (ok h m) flag count n e =
-    let a : h .refresh ≡ flag = cc in
-    let b : h .count ≡ count = cc in
-    let c : m ≡ n = cc in
-    rw (← a, ← b, ← c)
-opening-ok (no r) flag count n e = let z : _≡_ {A = ℕ} 0 1 = cc in absurd (omega arith)
-
-pub opening-no : (o : Out Head) (r : Refusal) → Refused r ≡ openingOf o → o ≡ no r
-opening-no (ok h m) r e = let z : _≡_ {A = ℕ} 0 1 = cc in absurd (omega arith)
-opening-no (no q) r e = cc
-
-pub found-ok : (o : Out Record) (x : Found) → x ≡ foundOf o → x .ok ≡ true → o ≡ ok (x .«record») (x .width)
+pub found-ok : (o : Out Name Record) (x : Found) → x ≡ foundOf o → x .ok ≡ true → o ≡ ok (x .«record») (x .width)
 found-ok (ok r m) x e h =
     let a : x .«record» ≡ r = ap (λ (f : Found). f .«record») e in
     let b : x .width ≡ m = ap (λ (f : Found). f .width) e in
     rw (a, b)
 found-ok (no q) x e h =
     let a : true ≡ false = sym h ∙ ap (λ (f : Found). f .ok) e in
-    let z : _≡_ {A = ℕ} 0 1 = cc in absurd (omega arith)
+    let z : _≡_ {A = ℕ} 0 1 = cc in clash z
 
-pub found-no : (o : Out Record) (x : Found) → x ≡ foundOf o → x .ok ≡ false → o ≡ no (x .why)
+pub found-no : (o : Out Name Record) (x : Found) → x ≡ foundOf o → x .ok ≡ false → (f : Fault Name) × (o ≡ no f) × (x .why ≡ refusal (numberIn f))
 found-no (ok r m) x e h =
     let a : false ≡ true = sym h ∙ ap (λ (f : Found). f .ok) e in
-    let z : _≡_ {A = ℕ} 0 1 = cc in absurd (omega arith)
-found-no (no q) x e h = let a : x .why ≡ q = ap (λ (f : Found). f .why) e in rw a
+    let z : _≡_ {A = ℕ} 0 1 = cc in clash z
+found-no (no q) x e h = (q, refl, ap (λ (f : Found). f .why) e)
 
--- ---- the parts of a reading that was accepted
+-- a fault, by its number
+by-number : (r : Refusal) (f : Fault Name) (o : Out Name Record) → r ≡ refusal (numberIn f) → o ≡ no f → refusedFound r ≡ foundOf o
+by-number r f o e q = rw (q, e)
 
-pub record Parts {A B : Type 0} (o : Out A) (f : A → Reader B) (s : List Bool) (b : B) (n : ℕ) : Type 0 where
-  pub value : A
-  pub ahead : ℕ
-  pub behind : ℕ
-  pub first : o ≡ ok value ahead
-  pub second : f value (drop ahead s) ≡ ok b behind
-  pub sum : n ≡ ahead + behind
+-- ---- one table behind another
 
-parts : {A B : Type 0} (o : Out A) (f : A → Reader B) (s : List Bool) (b : B) (n : ℕ) → andThen o f s ≡ ok b n → Parts o f s b n
-parts {A} {B} (ok a m) f s b n e = go (f a (drop m s)) refl
-  where
-    go : (p : Out B) → f a (drop m s) ≡ p → Parts (ok a m) f s b n
-    go (ok c j) q =
-        let x : ok c (m + j) ≡ ok b n = rw q at e in
-        record { value = a; ahead = m; behind = j; first = refl; second = cc; sum = cc }
-    go (no r) q = no-not-ok (rw q at e)
-parts (no r) f s b n e = no-not-ok e
+module _ {A B : Type 0} (p : Syntax Name A) where
+  then-no : (g : A → Syntax Name B) (at : ℕ) (s : List Bool) (f : Fault Name) → read p at s ≡ no f → read (p >>= g) at s ≡ no f
+  then-no g at s f e = read-then p g at s ∙ rw e refl
 
-aligned-first : {A : Type 0} (test : A → Bool) (o : Out A) (s : List Bool) (a : A) (n : ℕ) → aligned test o s ≡ ok a n → (m : ℕ) × (o ≡ ok a m)
-aligned-first test (ok b m) s a n e = go (zeros (cond (test b) (toBoundary m) 0) (drop m s)) refl
-  where
-    go : (p : Out ℕ) → zeros (cond (test b) (toBoundary m) 0) (drop m s) ≡ p → (m′ : ℕ) × (ok b m ≡ ok a m′)
-    go (ok z j) q =
-        let x : ok b (m + j) ≡ ok a n = rw q at e in
-        (m, cc)
-    go (no r) q = no-not-ok (rw q at e)
-aligned-first test (no r) s a n e = no-not-ok e
+  then-ok : (g : A → Syntax Name B) (at : ℕ) (s : List Bool) (a : A) (n : ℕ) → read p at s ≡ ok a n → read (p >>= g) at s ≡ widened n (read (g a) (at + n) (drop n s))
+  then-ok g at s a n e = read-then p g at s ∙ rw e refl
 
--- ---- the head: a number, and by what it is, one reader or another
+  -- another value of the same
+  then-done : (h : A → B) (at : ℕ) (s : List Bool) → read (p >>= λ a. done (h a)) at s ≡ mapped h (read p at s)
+  unfolding read
+  then-done h at s = read-then p (λ a. done (h a)) at s ∙ go (read p at s)
+    where
+      go : (o : Out Name A) → andThen o (λ a. read (done (h a))) at s ≡ mapped h o
+      go (ok a n) = ap (ok (h a)) (add-zero n)
+      go (no f) = refl
 
-module _ (first : Reader ℕ) (k : ℕ) (p q : Reader Head) where
-  abbrev pub checked : Reader Head
-  checked s = andThen (first s) (λ v t. cond (eqb v k) (p t) (q t)) s
+  -- what follows, in other words
+  then-same : (g k : A → Syntax Name B) → ((a : A) (at : ℕ) (s : List Bool) → read (g a) at s ≡ read (k a) at s) → (at : ℕ) (s : List Bool) → read (p >>= g) at s ≡ read (p >>= k) at s
+  then-same g k h at s = read-then p g at s ∙ go (read p at s) ∙ sym (read-then p k at s)
+    where
+      go : (o : Out Name A) → andThen o (λ a. read (g a)) at s ≡ andThen o (λ a. read (k a)) at s
+      go (ok a n) = ap (widened n) (h a (at + n) (drop n s))
+      go (no f) = refl
 
-  takes-checked : (i j : ℕ) → Takes i first → Takes j p → Takes j q → Takes (i + j) checked
-  takes-checked i j hf hp hq = takes-then i j first (λ v t. cond (eqb v k) (p t) (q t)) hf (λ v. takes-test j p q hp hq (eqb v k))
+  -- three in a row
+  then-then : {C : Type 0} (g : A → Syntax Name B) (k : B → Syntax Name C) (at : ℕ) (s : List Bool) → read (p >>= g >>= k) at s ≡ read (p >>= λ a. g a >>= k) at s
+  then-then {C} g k at s =
+      read-then (p >>= g) k at s ∙ ap (λ (o : Out Name B). andThen o (λ b. read (k b)) at s) (read-then p g at s) ∙ go (read p at s) ∙ sym (read-then p (λ a. g a >>= k) at s)
+    where
+      deep : (n : ℕ) (o : Out Name B) → andThen (widened n o) (λ b. read (k b)) at s ≡ widened n (andThen o (λ b. read (k b)) (at + n) (drop n s))
+      deep n (ok b m) = rw (drop-drop m n s, add-assoc at n m) (sym (widened-twice n m (read (k b) (at + (n + m)) (drop (n + m) s))))
+      deep n (no f) = refl
 
-  module _ (at : ℕ) (bits : List Bool) where
-    pub checked-no : (r : Refusal) → RefusedNumber r ≡ numberOf (first (drop at bits)) → Refused r ≡ openingOf (checked (drop at bits))
-    checked-no r e = rw (is-no (first (drop at bits)) r e)
-
-    module _ (v n : ℕ) (e : IsNumber v n ≡ numberOf (first (drop at bits))) where
-      pub checked-other : (v ≡ k → ⊥) → openingOf (more n (q (drop (at + n) bits))) ≡ openingOf (checked (drop at bits))
-      checked-other h = rw (is-ok (first (drop at bits)) v n e, ne-eqb v k h, drop-drop n at bits)
-
-      chosen : v ≡ k → checked (drop at bits) ≡ more n (p (drop (at + n) bits))
-      chosen h = rw (is-ok (first (drop at bits)) v n e, eq-eqb v k h, drop-drop n at bits)
-
-      pub checked-later : v ≡ k → (r : Refusal) → Refused r ≡ openingOf (p (drop (at + n) bits)) → Refused r ≡ openingOf (checked (drop at bits))
-      checked-later h r g = rw (chosen h, opening-no (p (drop (at + n) bits)) r g)
-
-      pub checked-is : v ≡ k → (flag : Bool) (count m : ℕ) → Is flag count m ≡ openingOf (p (drop (at + n) bits)) → Is flag count (n + m) ≡ openingOf (checked (drop at bits))
-      checked-is h flag count m g = rw (chosen h, opening-ok (p (drop (at + n) bits)) flag count m g)
-
--- num_ext_blocks
-module _ (s : List Bool) where
-  pub count-no : (r : Refusal) → RefusedNumber r ≡ numberOf (ue mostZeros s) → Refused r ≡ openingOf (blockCount s)
-  unfolding blockCount
-  count-no r e = rw (is-no (ue mostZeros s) r e)
-
-  module _ (v n : ℕ) (e : IsNumber v n ≡ numberOf (ue mostZeros s)) where
-    pub count-is : v ≤ mostBlocks → Is true v n ≡ openingOf (blockCount s)
-    unfolding blockCount
-    count-is h = rw (is-ok (ue mostZeros s) v n e, le-leb v mostBlocks h, add-zero n)
-
-    pub count-many : mostBlocks < v → Refused tooManyBlocks ≡ openingOf (blockCount s)
-    unfolding blockCount
-    count-many h = rw (is-ok (ue mostZeros s) v n e, lt-leb v mostBlocks h)
-
--- how many bits the head takes
-pub takes-count : Takes 31 blockCount
-unfolding blockCount
-takes-count =
-    takes-then 31 0 (ue mostZeros) (λ n t. cond (leb n mostBlocks) (ok (record { refresh = true; count = n }) 0) (no tooManyBlocks)) (takes-ue mostZeros)
-    (λ n. takes-test 0 (λ t. ok (record { refresh = true; count = n }) 0) (λ t. no tooManyBlocks) (takes-ok 0 _) (takes-no 0 tooManyBlocks) (leb n mostBlocks))
-
-pub takes-flag : Takes 32 refreshFlag
-unfolding refreshFlag
-takes-flag = takes-checked (u 1) 1 blockCount (λ t. ok (record { refresh = false; count = 0 }) 0) 1 31 (takes-u 1) takes-count (takes-ok 31 _)
-
-pub takes-version : Takes 63 appVersion
-unfolding appVersion
-takes-version = takes-checked (ue mostZeros) 0 refreshFlag (λ t. no wrongVersion) 31 32 (takes-ue mostZeros) takes-flag (takes-no 32 wrongVersion)
-
-pub takes-identifier : Takes 94 appIdentifier
-unfolding appIdentifier
-takes-identifier = takes-checked (ue mostZeros) 1 appVersion (λ t. no wrongIdentifier) 31 63 (takes-ue mostZeros) takes-version (takes-no 63 wrongIdentifier)
-
-abbrev pub headReader : Reader Head
-headReader s = aligned someBlocks (appIdentifier s) s
-
-pub takes-head : Takes 101 headReader
-takes-head = takes-aligned 94 appIdentifier someBlocks takes-identifier
-
--- the head announces at most 18 blocks
-abbrev Few : Reader Head → Type 0
-Few p = (s : List Bool) (h : Head) (n : ℕ) → p s ≡ ok h n → h .count ≤ mostBlocks
-
-few-checked : (first : Reader ℕ) (k : ℕ) (p q : Reader Head) → Few p → Few q → Few (checked first k p q)
-few-checked first k p q hp hq s h n e = go (parts (first s) (λ v t. cond (eqb v k) (p t) (q t)) s h n e)
-  where
-    go : Parts (first s) (λ v t. cond (eqb v k) (p t) (q t)) s h n → h .count ≤ mostBlocks
-    go x = by (eqb (x .value) k) refl
-      where
-        by : (b : Bool) → eqb (x .value) k ≡ b → h .count ≤ mostBlocks
-        by true w = hp (drop (x .ahead) s) h (x .behind) (rw w at (x .second))
-        by false w = hq (drop (x .ahead) s) h (x .behind) (rw w at (x .second))
-
-few-no : (r : Refusal) → Few (λ t. no r)
-few-no r s h n e = no-not-ok e
-
-few-count : Few blockCount
-unfolding blockCount
-few-count s h n e = go (parts (ue mostZeros s) (λ n t. cond (leb n mostBlocks) (ok (record { refresh = true; count = n }) 0) (no tooManyBlocks)) s h n e)
-  where
-    go : Parts (ue mostZeros s) (λ n t. cond (leb n mostBlocks) (ok (record { refresh = true; count = n }) 0) (no tooManyBlocks)) s h n → h .count ≤ mostBlocks
-    go x = by (leb (x .value) mostBlocks) refl
-      where
-        by : (b : Bool) → leb (x .value) mostBlocks ≡ b → h .count ≤ mostBlocks
-        by true w =
-            let l = leb-true (x .value) mostBlocks w in
-            let y : ok (record { refresh = true; count = x .value }) 0 ≡ ok h (x .behind) = rw w at (x .second) in
-            let z : record { refresh = true; count = x .value } ≡ h = cc in
-            let c : x .value ≡ h .count = ap (λ (g : Head). g .count) z in
-            omega arith
-        by false w = no-not-ok (rw w at (x .second))
-
-few-identifier : Few appIdentifier
-unfolding appIdentifier appVersion refreshFlag
-few-identifier =
-    few-checked (ue mostZeros) 1 appVersion (λ t. no wrongIdentifier)
-    (few-checked (ue mostZeros) 0 refreshFlag (λ t. no wrongVersion)
-    (few-checked (u 1) 1 blockCount (λ t. ok (record { refresh = false; count = 0 }) 0) few-count
-    (λ s h n e. let z : record { refresh = false; count = 0 } ≡ h = cc in let c : 0 ≡ h .count = ap (λ (g : Head). g .count) z in omega arith))
-    (few-no wrongVersion))
-    (few-no wrongIdentifier)
-
-pub few-head : Few headReader
-few-head s h n e = let x = aligned-first someBlocks (appIdentifier s) s h n e in few-identifier s h (x .0) (x .1)
-
--- ---- zero bits to the next byte boundary
-
-module _ {A : Type 0} (test : A → Bool) (o : Out A) (s : List Bool) where
-  pub aligned-no : (r : Refusal) → o ≡ no r → aligned test o s ≡ no r
-  aligned-no r e = rw e
-
-  module _ (a : A) (n : ℕ) (e : o ≡ ok a n) where
-    pub aligned-later : (r : Refusal) → RefusedNumber r ≡ numberOf (zeros (cond (test a) (toBoundary n) 0) (drop n s)) → aligned test o s ≡ no r
-    aligned-later r g = rw (e, is-no (zeros (cond (test a) (toBoundary n) 0) (drop n s)) r g)
-
-    pub aligned-ok : (z m : ℕ) → IsNumber z m ≡ numberOf (zeros (cond (test a) (toBoundary n) 0) (drop n s)) → aligned test o s ≡ ok a (n + m)
-    aligned-ok z m g = rw (e, is-ok (zeros (cond (test a) (toBoundary n) 0) (drop n s)) z m g)
+      go : (o : Out Name A) → andThen (andThen o (λ a. read (g a)) at s) (λ b. read (k b)) at s ≡ andThen o (λ a. read (g a >>= k)) at s
+      go (ok a n) = deep n (read (g a) (at + n) (drop n s)) ∙ ap (widened n) (sym (read-then (g a) k (at + n) (drop n s)))
+      go (no f) = refl
 
 -- ---- the blocks
 
-takes-blocks : (n : ℕ) (before : List Block) → Takes (128 * n) (blocksAfter before n)
-unfolding blocksAfter
-takes-blocks zero before s bs m e = takes-ok 0 [] s bs m e
-takes-blocks (suc n) before s bs m e =
-    let t =
-    takes-then 128 (128 * n) block (λ b t. cond (mayFollow before b) (mapped (λ bs. b ∷ bs) (blocksAfter (before ++ (b ∷ [])) n t)) (no repeated)) takes-block
-    (λ b. takes-test (128 * n) (λ t. mapped (λ bs. b ∷ bs) (blocksAfter (before ++ (b ∷ [])) n t)) (λ t. no repeated)
-    (takes-map (128 * n) (blocksAfter (before ++ (b ∷ [])) n) (λ bs. b ∷ bs) (takes-blocks n (before ++ (b ∷ [])))) (takes-no (128 * n) repeated) (mayFollow before b))
-    s bs m e in
-    (omega (arith, t), t .1)
+-- how many bits blocks have at most
+block-short : (b : Block) → sumOfWidths (blockElements b) ≤ blockBits
+unfolding sumOfWidths fieldElements totalWidth halvings
+block-short Nothing = omega arith
+block-short (Level1 min max avg) = omega arith
+block-short (Level2 t s o p c g m) = omega arith
+block-short (Level5 l r t b) = omega arith
+
+blocks-short : (bs : List Block) → sumOfWidths (blocksElements bs) ≤ blockBits * length bs
+unfolding sumOfWidths blocksElements
+blocks-short [] = omega arith
+blocks-short (b ∷ bs) = omega (arith, widths-append (blockElements b) (blocksElements bs), block-short b, blocks-short bs)
 
 -- a block more
-module _ (before : List Block) (k at : ℕ) (bits : List Bool) where
-  blocks-no : (r : Refusal) → block (drop at bits) ≡ no r → blocksAfter before (suc k) (drop at bits) ≡ no r
-  unfolding blocksAfter
-  blocks-no r e = rw e
+module _ (before : List Block) (k at : ℕ) (s : List Bool) where
+  blocks-read : read (blocksAfter before (suc k)) at s ≡ read (block >>= behind at before k) at s
+  unfolding read _>>=_ blocksAfter
+  blocks-read = refl
 
-  module _ (b : Block) (m : ℕ) (e : block (drop at bits) ≡ ok b m) where
-    blocks-repeated : mayFollow before b ≡ false → blocksAfter before (suc k) (drop at bits) ≡ no repeated
-    unfolding blocksAfter
-    blocks-repeated h = rw (e, h)
+  blocks-no : (f : Fault Name) → read block at s ≡ no f → read (blocksAfter before (suc k)) at s ≡ no f
+  blocks-no f e = blocks-read ∙ then-no block (behind at before k) at s f e
 
-    blocks-more : mayFollow before b ≡ true → blocksAfter before (suc k) (drop at bits) ≡ more m (mapped (λ bs. b ∷ bs) (blocksAfter (before ++ (b ∷ [])) k (drop (at + m) bits)))
-    unfolding blocksAfter
-    blocks-more h = rw (e, h, drop-drop m at bits)
+  module _ (b : Block) (m : ℕ) (e : read block at s ≡ ok b m) where
+    next-read : read (blocksAfter before (suc k)) at s ≡ widened m (read (behind at before k b) (at + m) (drop m s))
+    next-read = blocks-read ∙ then-ok block (behind at before k) at s b m e
 
-regroup : (flag : Bool) (met : List Block) (b : Block) (width m : ℕ) (o : Out (List Block))
-    → more (width + m) (mapped (λ rest. recordOf flag ((met ++ (b ∷ [])) ++ rest)) o) ≡ more width (mapped (λ rest. recordOf flag (met ++ rest)) (more m (mapped (λ bs. b ∷ bs) o)))
+    own : isBlock b ≡ true
+    own = accepted-is-block at s b m e
+
+    abbrev others : Unit {0} → Syntax Name (List Block)
+    others o = blocksAfter (before ++ (b ∷ [])) k >>= λ bs. done (b ∷ bs)
+
+    blocks-repeated : mayFollow before b ≡ false → (f : Fault Name) × (numberIn f ≡ repeated) × (read (blocksAfter before (suc k)) at s ≡ no f)
+    blocks-repeated h =
+        let r = read-may-not-follow others (at + m) (drop m s) at before b own h in
+        (breaks (r .0), r .1, next-read ∙ ap (widened m) (r .2))
+
+    blocks-more : mayFollow before b ≡ true → read (blocksAfter before (suc k)) at s ≡ widened m (mapped (λ bs. b ∷ bs) (read (blocksAfter (before ++ (b ∷ [])) k) (at + m) (drop m s)))
+    blocks-more h =
+        next-read ∙ ap (widened m) (read-may-follow others (at + m) (drop m s) at before b own h ∙ then-done (blocksAfter (before ++ (b ∷ [])) k) (λ bs. b ∷ bs) (at + m) (drop m s))
+
+regroup : (flag : Bool) (met : List Block) (b : Block) (width m : ℕ) (o : Out Name (List Block))
+    → widened (width + m) (mapped (λ rest. recordOf flag ((met ++ (b ∷ [])) ++ rest)) o) ≡ widened width (mapped (λ rest. recordOf flag (met ++ rest)) (widened m (mapped (λ bs. b ∷ bs) o)))
 regroup flag met b width m (ok bs j) =
     let e : width + m + j ≡ width + (m + j) = omega arith in
     rw (e, append-assoc met (b ∷ []) bs)
 regroup flag met b width m (no r) = refl
 
 -- the walk over n blocks: i are met, they took `width` bits, and r holds them; the answer from here is the answer from the start
+module _ (flag : Bool) (bits : List Bool) (start n : ℕ) where
+  abbrev allOf : Out Name Record
+  allOf = mapped (recordOf flag) (read (blocksAfter [] n) start (drop start bits))
+
+  abbrev from : List Block → ℕ → ℕ → Out Name Record
+  from met width i = widened width (mapped (λ rest. recordOf flag (met ++ rest)) (read (blocksAfter met (n - i)) (start + width) (drop (start + width) bits)))
+
 pub record Reached (flag : Bool) (bits : List Bool) (start n : ℕ) (r : Record) (width i : ℕ) : Type 0 where
   pub met : List Block
   pub few : i ≤ n
   pub many : length met ≡ i
-  pub short : width ≤ 128 * i
+  pub short : width ≤ blockBits * i
   pub made : r ≡ recordOf flag met
-  pub answer : more width (mapped (λ rest. recordOf flag (met ++ rest)) (blocksAfter met (n - i) (drop (start + width) bits)))
-      ≡ mapped (recordOf flag) (blocksAfter [] n (drop start bits))
+  pub answer : from flag bits start n met width i ≡ allOf flag bits start n
 
 module _ (flag : Bool) (bits : List Bool) (start n : ℕ) where
-  abbrev whole : Out Record
-  whole = mapped (recordOf flag) (blocksAfter [] n (drop start bits))
-
   pub reached-none : Reached flag bits start n (noBlocks flag) 0 0
   reached-none =
       let e : n - 0 ≡ n = omega arith in
-      record { met = []; few = omega arith; many = refl; short = omega arith; made = refl; answer = rw (e, add-zero start) (more-none whole) }
+      record { met = []; few = omega arith; many = refl; short = omega arith; made = refl; answer = rw (e, add-zero start) (widened-none (allOf flag bits start n)) }
 
   module _ (r : Record) (width i : ℕ) (x : Reached flag bits start n r width i) where
     pub reached-count : r .count ≡ i
@@ -275,100 +183,193 @@ module _ (flag : Bool) (bits : List Bool) (start n : ℕ) where
     reached-met : take i (allBlocks r) ≡ x .met
     reached-met = rw (x .made, ← x .many) (blocks-made flag (x .met))
 
-    pub reached-all : i ≡ n → foundOf (ok r width) ≡ foundOf whole
-    unfolding blocksAfter
+    pub reached-all : i ≡ n → foundOf (ok r width) ≡ foundOf (allOf flag bits start n)
+    unfolding blocksAfter read
     reached-all h =
         let e : n - i ≡ 0 = omega arith in
-        let a : more width (mapped (λ rest. recordOf flag (x .met ++ rest)) (blocksAfter (x .met) (n - i) (drop (start + width) bits))) ≡ ok r width =
-        rw (e, append-nil (x .met), add-zero width) (sym (ap (λ (q : Record). ok q width) (x .made))) in
+        let a : from flag bits start n (x .met) width i ≡ ok r width = rw (e, append-nil (x .met), add-zero width) (sym (ap (λ (q : Record). ok q width) (x .made))) in
         sym (ap foundOf (sym (x .answer) ∙ a))
 
     module _ (h : i < n) where
       next : n - i ≡ suc (n - (i + 1))
       next = omega arith
 
-      pub reached-no : (q : Refusal) → RefusedBlock q ≡ stepOf (block (drop (start + width) bits)) → foundOf (no q) ≡ foundOf whole
+      abbrev there : ℕ
+      there = start + width
+
+      -- what is read from here on
+      onward : (o : Out Name (List Block)) → read (blocksAfter (x .met) (suc (n - (i + 1)))) there (drop there bits) ≡ o → allOf flag bits start n ≡ widened width (mapped (λ rest. recordOf flag (x .met ++ rest)) o)
+      onward o e = sym (x .answer) ∙ rw (next, e) refl
+
+      pub reached-no : (q : Refusal) → RefusedBlock q ≡ stepOf (read block there (drop there bits)) → refusedFound q ≡ foundOf (allOf flag bits start n)
       reached-no q e =
-          let a : whole ≡ no q = sym (x .answer) ∙ rw (next, blocks-no (x .met) (n - (i + 1)) (start + width) bits q (step-no (block (drop (start + width) bits)) q e)) in
-          sym (ap foundOf a)
+          let f = step-no (read block there (drop there bits)) q e in
+          by-number q (f .0) (allOf flag bits start n) (f .2) (onward (no (f .0)) (blocks-no (x .met) (n - (i + 1)) there (drop there bits) (f .0) (f .1)))
 
-      module _ (b : Block) (m : ℕ) (e : IsBlock b m ≡ stepOf (block (drop (start + width) bits))) where
-        read : block (drop (start + width) bits) ≡ ok b m
-        read = step-ok (block (drop (start + width) bits)) b m e
+      module _ (b : Block) (m : ℕ) (e : IsBlock b m ≡ stepOf (read block there (drop there bits))) where
+        one-read : read block there (drop there bits) ≡ ok b m
+        one-read = step-ok (read block there (drop there bits)) b m e
 
-        pub reached-repeated : mayFollow (take i (allBlocks r)) b ≡ false → foundOf (no repeated) ≡ foundOf whole
+        pub reached-repeated : mayFollow (take i (allBlocks r)) b ≡ false → refusedFound (refusal repeated) ≡ foundOf (allOf flag bits start n)
         reached-repeated f =
             let g : mayFollow (x .met) b ≡ false = ap (λ (l : List Block). mayFollow l b) (sym reached-met) ∙ f in
-            let a : whole ≡ no repeated = sym (x .answer) ∙ rw (next, blocks-repeated (x .met) (n - (i + 1)) (start + width) bits b m read g) in
-            sym (ap foundOf a)
+            let y = blocks-repeated (x .met) (n - (i + 1)) there (drop there bits) b m one-read g in
+            by-number (refusal repeated) (y .0) (allOf flag bits start n) (ap refusal (sym (y .1))) (onward (no (y .0)) (y .2))
 
         pub reached-more : n ≤ mostBlocks → mayFollow (take i (allBlocks r)) b ≡ true → Reached flag bits start n (withBlock r b) (width + m) (i + 1)
         reached-more few f =
             let g : mayFollow (x .met) b ≡ true = ap (λ (l : List Block). mayFollow l b) (sym reached-met) ∙ f in
-            let t = takes-block (drop (start + width) bits) b m read in
+            let t = accepted-few there (drop there bits) b m one-read in
             let c = x .many in
-            let p : start + (width + m) ≡ start + width + m = omega arith in
-            let rest = blocksAfter (x .met ++ (b ∷ [])) (n - (i + 1)) (drop (start + width + m) bits) in
-            let here : more width (mapped (λ rest. recordOf flag (x .met ++ rest)) (blocksAfter (x .met) (n - i) (drop (start + width) bits)))
-            ≡ more (width + m) (mapped (λ rest. recordOf flag ((x .met ++ (b ∷ [])) ++ rest)) rest) =
-            rw (next, blocks-more (x .met) (n - (i + 1)) (start + width) bits b m read g) (sym (regroup flag (x .met) b width m rest)) in
+            let p : start + (width + m) ≡ there + m = omega arith in
+            let rest = read (blocksAfter (x .met ++ (b ∷ [])) (n - (i + 1))) (there + m) (drop (there + m) bits) in
+            let y = onward _ (blocks-more (x .met) (n - (i + 1)) there (drop there bits) b m one-read g) in
+            let z : from flag bits start n (x .met ++ (b ∷ [])) (width + m) (i + 1) ≡ allOf flag bits start n =
+            rw p (regroup flag (x .met) b width m rest) ∙ sym (rw (drop-drop m there bits) at y) in
             record {
               met = x .met ++ (b ∷ []);
               few = omega arith;
               many = omega (arith, length-append (x .met) (b ∷ []));
-              short = omega (arith, t .0);
+              short = omega (arith, t);
               made = ap (λ (q : Record). withBlock q b) (x .made) ∙ made-more flag (x .met) b (omega arith);
-              answer = rw p (sym here ∙ x .answer);
+              answer = z;
             }
 
--- ---- the head and the blocks
+-- ---- what stands before the blocks, and the blocks
 
-abbrev pub blocksOf : Head → Reader Record
-blocksOf h s = mapped (recordOf (h .refresh)) (blocksAfter [] (h .count) s)
+abbrev blocksOf : Head → Syntax Name Record
+blocksOf h = blocksAfter [] (h .count) >>= λ bs. done (recordOf (h .refresh) bs)
 
-pub takes-blocks-of : (h : Head) → Takes (128 * h .count) (blocksOf h)
-takes-blocks-of h = takes-map (128 * h .count) (blocksAfter [] (h .count)) (recordOf (h .refresh)) (takes-blocks (h .count) [])
+-- as the code reads them
+abbrev pub blocksFrom : Head → ℕ → List Bool → Out Name Record
+blocksFrom h at s = mapped (recordOf (h .refresh)) (read (blocksAfter [] (h .count)) at s)
+
+-- the bits of at most 18 blocks
+pub blocks-few : (s : List Bool) (h : Head) (at : ℕ) (r : Record) (m : ℕ) → blocksFrom h at s ≡ ok r m → m ≤ blockBits * h .count
+blocks-few s h at r m e = go (read (blocksAfter [] (h .count)) at s) (every-answer-is-true (blocksAfter [] (h .count)) at s) e
+  where
+    go : (o : Out Name (List Block)) → Means (blocksAfter [] (h .count)) at s o → mapped (recordOf (h .refresh)) o ≡ ok r m → m ≤ blockBits * h .count
+    go (ok bs n) y q =
+        let k : n ≡ m = cc in
+        let b = blocks-only (h .count) [] at (y .0) bs (y .1) in
+        let c : length bs ≡ h .count = b .0 in
+        few n (length bs) (h .count) k (y .3 ∙ ap sumOfWidths (b .2)) (blocks-short bs) c
+      where
+        few : (n c d : ℕ) → n ≡ m → {w : ℕ} → n ≡ w → w ≤ blockBits * c → c ≡ d → m ≤ blockBits * d
+        few n c d p q r e = omega arith
+    go (no f) y q = let z : _≡_ {A = ℕ} 0 1 = cc in clash z
 
 module _ (s : List Bool) where
-  pub both-no : (r : Refusal) → headReader s ≡ no r → headAndBlocks s ≡ no r
+  both-no : (f : Fault Name) → read opening 0 s ≡ no f → read headAndBlocks 0 s ≡ no f
   unfolding headAndBlocks
-  both-no r e = rw e
+  both-no f e = then-no opening blocksOf 0 s f e
 
-  module _ (h : Head) (n : ℕ) (e : headReader s ≡ ok h n) where
-    pub both-later : (r : Refusal) → blocksOf h (drop n s) ≡ no r → headAndBlocks s ≡ no r
+  pub both-refused : (r : Refusal) → (f : Fault Name) × (read opening 0 s ≡ no f) × (r ≡ refusal (numberIn f)) → refusedFound r ≡ foundOf (read headAndBlocks 0 s)
+  both-refused r (f, e, q) = by-number r f (read headAndBlocks 0 s) q (both-no f e)
+
+  module _ (h : Head) (n : ℕ) (e : read opening 0 s ≡ ok h n) where
+    both : read headAndBlocks 0 s ≡ widened n (blocksFrom h n (drop n s))
     unfolding headAndBlocks
-    both-later r g = rw (e, g)
+    both = then-ok opening blocksOf 0 s h n e ∙ rw (zero-add n) (ap (widened n) (then-done (blocksAfter [] (h .count)) (recordOf (h .refresh)) n (drop n s)))
 
-    pub both-ok : (r : Record) (m : ℕ) → blocksOf h (drop n s) ≡ ok r m → headAndBlocks s ≡ ok r (n + m)
-    unfolding headAndBlocks
-    both-ok r m g = rw (e, g)
+    pub both-later : (f : Fault Name) → blocksFrom h n (drop n s) ≡ no f → read headAndBlocks 0 s ≡ no f
+    both-later f g = both ∙ ap (widened n) g
 
--- 101 bits of the head, and 128 for each of at most 18 blocks
-pub takes-both : Takes 2405 headAndBlocks
-unfolding headAndBlocks
-takes-both s r n e =
-    let x = parts (headReader s) blocksOf s r n e in
-    let h = takes-head s (x .value) (x .ahead) (x .first) in
-    let c = few-head s (x .value) (x .ahead) (x .first) in
-    let b = takes-blocks-of (x .value) (drop (x .ahead) s) r (x .behind) (x .second) in
-    (omega (arith, h, c, b, x .sum), omega (arith, h, b, x .sum, length-drop (x .ahead) s))
+    pub both-ok : (r : Record) (m : ℕ) → blocksFrom h n (drop n s) ≡ ok r m → read headAndBlocks 0 s ≡ ok r (n + m)
+    both-ok r m g = both ∙ ap (widened n) g
 
-pub takes-whole : Takes 2412 wholeBytes
-unfolding wholeBytes
-takes-whole = takes-aligned 2405 headAndBlocks (λ r. true) takes-both
+  pub both-few : (r : Record) (n : ℕ) → read headAndBlocks 0 s ≡ ok r n → n ≤ 16 + blockBits * mostBlocks
+  both-few r n e = go (read opening 0 s) refl
+    where
+      go : (o : Out Name Head) → read opening 0 s ≡ o → n ≤ 16 + blockBits * mostBlocks
+      go (ok h m) q =
+          let f = opening-few s h m q in
+          rest (blocksFrom h m (drop m s)) refl (f .0) (f .1)
+        where
+          rest : (o : Out Name Record) → blocksFrom h m (drop m s) ≡ o → h .count ≤ mostBlocks → m ≤ 16 → n ≤ 16 + blockBits * mostBlocks
+          rest (ok x j) w c l =
+              let y : ok x (m + j) ≡ ok r n = sym (both-ok h m q x j w) ∙ e in
+              let z : m + j ≡ n = cc in
+              omega (arith, blocks-few (drop m s) h m x j w)
+          rest (no f) w c l = let y : no f ≡ ok r n = sym (both-later h m q f w) ∙ e in let z : _≡_ {A = ℕ} 0 1 = cc in clash z
+      go (no f) q = let y : no f ≡ ok r n = sym (both-no f q) ∙ e in let z : _≡_ {A = ℕ} 0 1 = cc in clash z
 
--- ---- the end
+-- ---- zero bits to the next byte boundary
+
+abbrev ending : Record → Syntax Name Record
+ending r = alignment «dm_alignment_zero_bit» >>= λ z. done r
+
+-- the whole table is what is read up to the last block, and zero bits
+blocks-end : (h : Head) (at : ℕ) (t : List Bool) → read (blocksOf h >>= ending) at t ≡ read (afterFirst h) at t
+unfolding _>>=_
+blocks-end h at t = then-then (blocksAfter [] (h .count)) (λ bs. done (recordOf (h .refresh) bs)) ending at t
+
+head-end : (h : Head) (at : ℕ) (t : List Bool) → read (alignedHead h >>= λ g. blocksOf g >>= ending) at t ≡ read (afterHead h) at t
+unfolding alignedHead _>>=_
+head-end h at t =
+    then-then (firstAlignment (h .count)) (λ y. done h) (λ g. blocksOf g >>= ending) at t
+    ∙ then-same (firstAlignment (h .count)) (λ y. blocksOf h >>= ending) (λ y. afterFirst h) (λ y. blocks-end h) at t
+
+data-read : (s : List Bool) → read «ST2094-10_data» 0 s ≡ read (headAndBlocks >>= ending) 0 s
+unfolding «ST2094-10_data» headAndBlocks opening
+data-read s =
+    sym (then-then opening blocksOf ending 0 s ∙ then-then head alignedHead (λ h. blocksOf h >>= ending) 0 s
+    ∙ then-same head (λ h. alignedHead h >>= λ g. blocksOf g >>= ending) afterHead head-end 0 s)
+
+module _ (r : Record) (at : ℕ) (s : List Bool) where
+  gap-read : read (alignment «dm_alignment_zero_bit») at s ≡ read (zeroBits «dm_alignment_zero_bit» (toBoundary at)) at s
+  unfolding read
+  gap-read = refl
+
+  ending-no : (f : Fault Name) → read (zeroBits «dm_alignment_zero_bit» (toBoundary at)) at s ≡ no f → read (ending r) at s ≡ no f
+  ending-no f e = then-no (alignment «dm_alignment_zero_bit») (λ z. done r) at s f (gap-read ∙ e)
+
+  ending-ok : (n : ℕ) → read (zeroBits «dm_alignment_zero_bit» (toBoundary at)) at s ≡ ok tt n → read (ending r) at s ≡ ok r n
+  ending-ok n e = then-done (alignment «dm_alignment_zero_bit») (λ z. r) at s ∙ ap (mapped (λ z. r)) (gap-read ∙ e)
 
 module _ (s : List Bool) where
-  pub data-no : (r : Refusal) → wholeBytes s ≡ no r → readingOf (no r) ≡ readingOf («ST2094-10_data» s)
-  unfolding «ST2094-10_data»
-  data-no r e = rw e
+  pub data-refused : (f : Fault Name) → read headAndBlocks 0 s ≡ no f → read «ST2094-10_data» 0 s ≡ no f
+  data-refused f e = data-read s ∙ then-no headAndBlocks ending 0 s f e
 
-  module _ (r : Record) (n : ℕ) (e : wholeBytes s ≡ ok r n) where
-    pub data-remains : (length (drop n s) ≡ 0 → ⊥) → readingOf (no bytesRemain) ≡ readingOf («ST2094-10_data» s)
-    unfolding «ST2094-10_data»
-    data-remains h = rw (e, ne-eqb (length (drop n s)) 0 h)
+  module _ (r : Record) (n : ℕ) (e : read headAndBlocks 0 s ≡ ok r n) where
+    before-the-end : read «ST2094-10_data» 0 s ≡ widened n (read (ending r) n (drop n s))
+    before-the-end = data-read s ∙ then-ok headAndBlocks ending 0 s r n e ∙ rw (zero-add n) refl
 
-    pub data-is : length (drop n s) ≡ 0 → readingOf (ok r n) ≡ readingOf («ST2094-10_data» s)
-    unfolding «ST2094-10_data»
-    data-is h = rw (e, eq-eqb (length (drop n s)) 0 h, add-zero n)
+    pub data-later : (q : Refusal) → RefusedNumber q ≡ spanOf (read (zeroBits nameless (toBoundary n)) n (drop n s)) → refusedFound q ≡ foundOf (read «ST2094-10_data» 0 s)
+    data-later q g =
+        let f = spans-no (read (zeroBits «dm_alignment_zero_bit» (toBoundary n)) n (drop n s)) q (g ∙ named-zeros «dm_alignment_zero_bit» (toBoundary n) n (drop n s)) in
+        by-number q (f .0) (read «ST2094-10_data» 0 s) (f .2) (before-the-end ∙ ap (widened n) (ending-no r n (drop n s) (f .0) (f .1)))
+
+    module _ (z m : ℕ) (g : IsNumber z m ≡ spanOf (read (zeroBits nameless (toBoundary n)) n (drop n s))) where
+      end-read : read (zeroBits «dm_alignment_zero_bit» (toBoundary n)) n (drop n s) ≡ ok tt m
+      end-read = spans-ok (read (zeroBits «dm_alignment_zero_bit» (toBoundary n)) n (drop n s)) z m (g ∙ named-zeros «dm_alignment_zero_bit» (toBoundary n) n (drop n s))
+
+      pub end-took : m ≡ toBoundary n
+      end-took = zeros-took «dm_alignment_zero_bit» (toBoundary n) n (drop n s) m end-read
+
+      pub data-ok : read «ST2094-10_data» 0 s ≡ ok r (n + m)
+      data-ok = before-the-end ∙ ap (widened n) (ending-ok r n (drop n s) m end-read)
+
+-- ---- the end of the input
+
+-- what is accepted ends at a byte boundary, and has no more bits than the largest payload
+pub data-whole : (s : List Bool) (r : Record) (n : ℕ) → read «ST2094-10_data» 0 s ≡ ok r n → (n % 8 ≡ 0) × (n ≤ 1792)
+data-whole s r n e =
+    let m : Means «ST2094-10_data» 0 s (ok r n) = rw e at (every-answer-is-true «ST2094-10_data» 0 s) in
+    let k = data-spells .only (m .0) r (m .1) in
+    let w : n ≡ sumOfWidths (elements r) = m .3 ∙ ap sumOfWidths (k .1) in
+    (ap (λ (x : ℕ). x % 8) w ∙ whole r, omega (arith, w, most-bits r (k .0)))
+
+module _ (s : List Bool) where
+  pub data-no : (q : Refusal) → (f : Fault Name) × (read «ST2094-10_data» 0 s ≡ no f) × (q ≡ refusal (numberIn f)) → refusedReading (q .number) ≡ readingOf (bareData s)
+  unfolding readWhole
+  data-no q (f, e, w) = ap (λ (x : Refusal). refusedReading (x .number)) w ∙ sym (rw e refl)
+
+  module _ (r : Record) (n : ℕ) (e : read «ST2094-10_data» 0 s ≡ ok r n) where
+    pub data-remains : (length (drop n s) / 8 ≡ 0 → ⊥) → refusedReading bytesRemain ≡ readingOf (bareData s)
+    unfolding readWhole
+    data-remains h = sym (rw (e, range-of-one 0 (length (drop n s) / 8), ne-eqb (length (drop n s) / 8) 0 h) refl)
+
+    pub data-is : length (drop n s) / 8 ≡ 0 → readingOf (ok r n) ≡ readingOf (bareData s)
+    unfolding readWhole
+    data-is h = sym (rw (e, range-of-one 0 (length (drop n s) / 8), eq-eqb (length (drop n s) / 8) 0 h, add-zero n) refl)

@@ -9,12 +9,11 @@ use borrow.Author.Tests.{ne-eqb, eq-eqb, eqb-true}
 use lib.Dec.{eqb}
 use lib.ListN.{length, getD, take, drop, length-map, List·getD-map}
 use lib.Seq.{take-suc, drop-cons, slice-cons, append-snoc}
-use Rattle.bits.specs.Bits.{bit}
 use Rattle.record.specs.declared.Block.{Block}
-use Rattle.record.specs.declared.Block.the-variants.{Nothing, Level1, Level2, Level5}
+use Rattle.record.specs.declared.Block.the-variants.{Nothing}
 use Rattle.record.specs.declared.Record.{Record}
-use Rattle.record.specs.Level.{level, reserved, levelOf}
-use Rattle.record.specs.Valid.{nowhere, blockIn, allBlocks, every, many, targets, among, allDiffer, newTarget, fine, mayFollow, wellFormed}
+use Rattle.record.specs.Level.{level, reserved}
+use Rattle.record.specs.Blocks.{emptyPlace, blockIn, allBlocks}
 
 -- ---- tests
 
@@ -52,98 +51,17 @@ eqb-turned x y =
 pub no-level : (l : ℕ) → (l ≡ 1 → ⊥) → (l ≡ 2 → ⊥) → (l ≡ 5 → ⊥) → level l ≡ reserved
 no-level l f g h = rw (ne-eqb l 1 f, ne-eqb l 2 g, ne-eqb l 5 h)
 
--- ---- one list behind another
-
-targets-append : (xs ys : List Block) → targets (xs ++ ys) ≡ targets xs ++ targets ys
-unfolding targets
-targets-append [] ys = refl
-targets-append (Nothing ∷ xs) ys = targets-append xs ys
-targets-append (Level1 min max avg ∷ xs) ys = targets-append xs ys
-targets-append (Level2 t s o p c g m ∷ xs) ys = ap (λ (ts : List ℕ). t ∷ ts) (targets-append xs ys)
-targets-append (Level5 l r t b ∷ xs) ys = targets-append xs ys
-
-pub among-append : (x : ℕ) (ys zs : List ℕ) → among x (ys ++ zs) ≡ among x ys || among x zs
-unfolding among
-among-append x [] zs = refl
-among-append x (y ∷ ys) zs = rw (among-append x ys zs, or-assoc)
-
-pub new-target-append : (xs ys : List Block) (b : Block) → newTarget (xs ++ ys) b ≡ newTarget xs b && newTarget ys b
-new-target-append xs ys Nothing = refl
-new-target-append xs ys (Level1 min max avg) = refl
-new-target-append xs ys (Level2 t s o p c g m) = rw (targets-append xs ys, among-append, not-or)
-new-target-append xs ys (Level5 l r t b) = refl
-
--- a block has room in its level, and in level 2 a new target, where none stands before it
-pub first-follows : (b : Block) → fine b ≡ true → mayFollow [] b ≡ true
-unfolding mayFollow many targets among
-first-follows Nothing h = h
-first-follows (Level1 min max avg) h = refl
-first-follows (Level2 t s o p c g m) h = refl
-first-follows (Level5 l r t b) h = refl
-
--- where no level 2 block stands before it, each block's target is new
-pub new-target-none : (before : List Block) (b : Block) → targets before ≡ [] → newTarget before b ≡ true
-unfolding among
-new-target-none before Nothing h = refl
-new-target-none before (Level1 min max avg) h = refl
-new-target-none before (Level2 t s o p c g m) h = rw h
-new-target-none before (Level5 l r t b) h = refl
-
-pub well-formed-append : (before xs ys : List Block) → wellFormed before (xs ++ ys) ≡ wellFormed before xs && wellFormed (before ++ xs) ys
-unfolding wellFormed
-well-formed-append before [] ys = rw append-nil
-well-formed-append before (x ∷ xs) ys = simp (well-formed-append (before ++ (x ∷ [])) xs ys, append-snoc, and-assoc)
-
--- ---- one block more
-
-pub every-more : (test : Block → Bool) (bs : List Block) (b : Block) → every test (bs ++ (b ∷ [])) ≡ every test bs && test b
-unfolding every
-every-more test [] b = and-true (test b)
-every-more test (x ∷ bs) b = rw (every-more test bs b, and-assoc)
-
-pub many-more : (l : ℕ) (bs : List Block) (b : Block) → many l (bs ++ (b ∷ [])) ≡ many l bs + bit (eqb (levelOf b) l)
-unfolding many
-many-more l [] b = omega arith
-many-more l (x ∷ bs) b = omega (arith, many-more l bs b)
-
--- the tests of `all-differ-more`, in its order
-shuffle : (p q d r : Bool) → not (p || (q || false)) && (d && not r) ≡ not p && d && not (q || r)
-shuffle true q d r = refl
-shuffle false true d r = sym (and-false d)
-shuffle false false d r = refl
-
-all-differ-more : (xs : List ℕ) (x : ℕ) → allDiffer (xs ++ (x ∷ [])) ≡ allDiffer xs && not (among x xs)
-unfolding allDiffer among
-all-differ-more [] x = refl
-all-differ-more (y ∷ ys) x = rw (among-append y ys (x ∷ []), all-differ-more ys x, eqb-turned y x, shuffle)
-
-pub targets-more : (bs : List Block) (b : Block) → allDiffer (targets (bs ++ (b ∷ []))) ≡ allDiffer (targets bs) && newTarget bs b
-unfolding targets
-targets-more bs Nothing = rw (targets-append bs (Nothing ∷ []), append-nil, and-true)
-targets-more bs (Level1 min max avg) = rw (targets-append bs (Level1 min max avg ∷ []), append-nil, and-true)
-targets-more bs (Level2 t s o p c g m) = rw (targets-append bs (Level2 t s o p c g m ∷ []), all-differ-more)
-targets-more bs (Level5 l r t b) = rw (targets-append bs (Level5 l r t b ∷ []), append-nil, and-true)
-
 -- ---- the blocks of a record, place by place
 
 abbrev pub blockAt : Record → ℕ → Block
-blockAt r j = blockIn (getD (r .places) j nowhere)
+blockAt r j = blockIn (getD (r .places) j emptyPlace)
 
 module _ (r : Record) (j : ℕ) (h : j < length (r .places)) where
   inside : j < length (allBlocks r)
   inside = rw (length-map (r .places) blockIn) h
 
   pub take-more : take (j + 1) (allBlocks r) ≡ take j (allBlocks r) ++ (blockAt r j ∷ [])
-  take-more = rw (add-one j, take-suc (allBlocks r) j Nothing inside, List·getD-map blockIn (r .places) j nowhere)
+  take-more = rw (add-one j, take-suc (allBlocks r) j Nothing inside, List·getD-map blockIn (r .places) j emptyPlace)
 
   pub drop-more : drop j (allBlocks r) ≡ blockAt r j ∷ drop (j + 1) (allBlocks r)
-  drop-more = rw (add-one j, drop-cons (allBlocks r) j Nothing inside, List·getD-map blockIn (r .places) j nowhere)
-
--- the walk over the first n blocks of a record, at block j
-pub walk-more : (r : Record) (j n : ℕ) → j < n → n ≤ length (r .places)
-    → wellFormed (take j (allBlocks r)) (drop j (take n (allBlocks r)))
-    ≡ fine (blockAt r j) && mayFollow (take j (allBlocks r)) (blockAt r j) && wellFormed (take (j + 1) (allBlocks r)) (drop (j + 1) (take n (allBlocks r)))
-unfolding wellFormed
-walk-more r j n h k =
-    let k′ : n ≤ length (allBlocks r) = rw (length-map (r .places) blockIn) k in
-    rw (take-more r j (omega arith), slice-cons j n (allBlocks r) Nothing h k′, List·getD-map blockIn (r .places) j nowhere, add-one j)
+  drop-more = rw (add-one j, drop-cons (allBlocks r) j Nothing inside, List·getD-map blockIn (r .places) j emptyPlace)

@@ -1,4 +1,3 @@
 pub mod Laws
-pub mod Clauses
-pub mod Made
 pub mod OneAnswer
+pub mod Edges

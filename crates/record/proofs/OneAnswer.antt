@@ -19,12 +19,6 @@ use Rattle.record.proofs.in_range.Kinds as in-range
 use Rattle.record.proofs.in_range.Reads as in-range-contract
 use Rattle.record.proofs.in_order.Kinds as in-order
 use Rattle.record.proofs.in_order.Reads as in-order-contract
-use Rattle.record.proofs.may_follow.Kinds as may-follow
-use Rattle.record.proofs.may_follow.Reads as may-follow-contract
-use Rattle.record.proofs.with_block.Kinds as with-block
-use Rattle.record.proofs.with_block.Reads as with-block-contract
-use Rattle.record.proofs.is_valid.Kinds as is-valid
-use Rattle.record.proofs.is_valid.Reads as is-valid-contract
 use Rattle.record.proofs.most_blocks.Kinds as most-blocks
 use Rattle.record.proofs.most_blocks.Reads as most-blocks-contract
 
@@ -54,15 +48,6 @@ in-range-one κs a x y s t e f = e ∙ sym f
 
 pub in-order-one : OneResult in-order.ps in-order.r in-order-contract.Post
 in-order-one κs a x y s t e f = e ∙ sym f
-
-pub may-follow-one : OneResult may-follow.ps may-follow.r may-follow-contract.Post
-may-follow-one κs a x y s t e f = e ∙ sym f
-
-pub with-block-one : OneResult with-block.ps with-block.r with-block-contract.Post
-with-block-one κs a x y s t e f = e ∙ sym f
-
-pub is-valid-one : OneResult is-valid.ps is-valid.r is-valid-contract.Post
-is-valid-one κs a x y s t e f = e ∙ sym f
 
 pub most-blocks-one : OneResult most-blocks.ps most-blocks.r most-blocks-contract.Post
 most-blocks-one κs a x y s t e f = e ∙ sym f

@@ -4,28 +4,25 @@ use mathlib.Core.List.{List, [], _∷_, map}
 use mathlib.Core.Bool.{Bool, cond, _||_}
 use lib.Dec.{eqb}
 use lib.IntN.{ℤ, pos}
-use Rattle.bits.specs.Coding.{Coding, unsigned, signed, totalWidth}
+use Rattle.tree.specs.Coding.{Coding, unsigned, signed, totalWidth}
+use Rattle.tree.specs.Syntax.{Field, codingOf}
 use Rattle.record.specs.declared.Block.{Block}
 use Rattle.record.specs.declared.Block.the-variants.{Nothing, Level1, Level2, Level5}
 use Rattle.record.specs.Name.{Name, «min_PQ», «max_PQ», «avg_PQ», «target_max_PQ», «trim_slope», «trim_offset», «trim_power», «trim_chroma_weight», «trim_saturation_gain», «ms_weight», «active_area_left_offset», «active_area_right_offset», «active_area_top_offset», «active_area_bottom_offset»}
 
-pub record Field : Type 0 where
-  pub name : Name
-  pub coding : Coding
-
-abbrev u12 : Name → Field
+abbrev u12 : Name → Field Name
 u12 n = record { name = n; coding = unsigned 12 }
 
-abbrev u13 : Name → Field
+abbrev u13 : Name → Field Name
 u13 n = record { name = n; coding = unsigned 13 }
 
-abbrev i13 : Name → Field
+abbrev i13 : Name → Field Name
 i13 n = record { name = n; coding = signed 13 }
 
 -- `bytes` is the level's ext_block_length
 pub record Level : Type 0 where
   pub bytes : ℕ
-  pub fields : List Field
+  pub fields : List (Field Name)
   pub most : ℕ
 
 -- 01, The data, bit by bit: the table of levels, and "at most one of level 1, one of level 5, sixteen of level 2"
@@ -52,8 +49,8 @@ level l = cond (eqb l 1) level1 (cond (eqb l 2) level2 (cond (eqb l 5) level5 re
 abbrev pub known : ℕ → Bool
 known l = eqb l 1 || eqb l 2 || eqb l 5
 
-abbrev codingOf : Field → Coding
-codingOf f = f .coding
+abbrev pub fieldsOf : ℕ → List (Field Name)
+fieldsOf l = level l .fields
 
 abbrev pub codings : ℕ → List Coding
 codings l = map codingOf (level l .fields)

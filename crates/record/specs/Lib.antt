@@ -1,4 +1,4 @@
 pub mod Name
 pub mod Level
-pub mod Valid
+pub mod Blocks
 pub mod Made

@@ -6,11 +6,11 @@ use lib.ListN.{length, replicate}
 use Rattle.record.specs.declared.Block.{Block}
 use Rattle.record.specs.declared.Place.{Place}
 use Rattle.record.specs.declared.Record.{Record}
-use Rattle.record.specs.Valid.{mostBlocks, nowhere}
+use Rattle.record.specs.Blocks.{mostBlocks, emptyPlace}
 
-abbrev pub placeOf : Block → Place
-placeOf b = record { block = b }
+abbrev pub placeWith : Block → Place
+placeWith b = record { block = b }
 
 -- the blocks in the first places, in their order, and nothing in the others
 abbrev pub recordOf : Bool → List Block → Record
-recordOf flag bs = record { refresh = flag; count = length bs; places = map placeOf bs ++ replicate (mostBlocks - length bs) nowhere }
+recordOf flag bs = record { refresh = flag; count = length bs; places = map placeWith bs ++ replicate (mostBlocks - length bs) emptyPlace }

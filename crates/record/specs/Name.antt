@@ -1,4 +1,4 @@
--- The names of the syntax elements of A/341, tables E.1.1 to E.1.3, in their order there.
+-- The names of the syntax elements of A/341, tables E.1.1 to E.1.3, in their order there; then of what a refusal can be about that is none of them: the end of the data, and the wrapper.
 pub data Name : Type 0 where
   «app_identifier» : Name
   «app_version» : Name
@@ -22,3 +22,5 @@ pub data Name : Type 0 where
   «active_area_top_offset» : Name
   «active_area_bottom_offset» : Name
   «ext_dm_alignment_zero_bit» : Name
+  «end» : Name
+  «wrapper» : Name

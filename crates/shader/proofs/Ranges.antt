@@ -6,9 +6,9 @@ use borrow.Author.Tests.{ltb-true}
 use lib.Dec.{ltb}
 use lib.IntN.{ℤ, pos, negsuc}
 use lib.Signed.{mag}
-use Rattle.bits.specs.Coding.{signed, holds, holdAll}
+use Rattle.tree.specs.Coding.{signed, holds, holdAll}
 use Rattle.record.specs.declared.Block.the-variants.{Level2}
-use Rattle.record.specs.Valid.{inRange}
+use Rattle.record.specs.Blocks.{inRange}
 use Rattle.record.proofs.Laws.{and-left, and-right}
 
 pub record Codes (t s o p c g : ℕ) (m : ℤ) : Type 0 where

@@ -1,5 +1,6 @@
 // The numbers that the shader gets for a level 2 block: each exactly its code divided by 4,096.
 use record::Block;
+use refusals::Refusal;
 ghost use mathlib.Core.Path.{_≡_};
 ghost use mathlib.Core.Bool.{true};
 ghost use mathlib.Core.List.{map};
@@ -10,11 +11,12 @@ ghost use lib.ListN.{replicate};
 ghost use lib.Ieee.{binary32, toBits};
 ghost use Rattle.record.specs.declared.Block.the-variants.{Level2};
 ghost use Rattle.record.specs.Level.{valuesOf};
-ghost use Rattle.record.specs.Valid.{inRange};
-ghost use Rattle.shader.specs.Shader.{singleBits, conversionResult, conversionBits, bitsIn};
+ghost use Rattle.record.specs.Blocks.{inRange};
+ghost use Rattle.singles.specs.Singles.{singleBits};
+ghost use Rattle.shader.specs.Shader.{conversionResult, conversionBits, bitsIn};
 
 // 01, Refusal numbers.
-const NOT_CONVERTIBLE: u8 = 14;
+const NOT_CONVERTIBLE: u8 = Refusal::NOT_VALID;
 
 // The seven numbers, in the order of the block's fields.
 pub struct Numbers {

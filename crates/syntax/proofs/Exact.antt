@@ -1,36 +1,234 @@
--- Exactness: the walk accepts exactly the one payload of each valid record, with the record and the sum of its widths.
-use Prim.Native.Nat.{ℕ, _+_, _-_, _/_, _%_, _≤_}
+-- Exactness: the table is followed by exactly the elements of valid records, and an input is accepted exactly if it is the one payload of one.
+use Prim.Native.Nat.{ℕ, zero, suc, _+_, _/_, _%_, _≤_}
 use mathlib.Core.Path.{_≡_, refl, ap, sym, _∙_}
-use mathlib.Core.List.{List, [], _∷_, _++_, append-nil}
-use mathlib.Core.Bool.{Bool, true, false, _||_}
+use mathlib.Core.List.{List, [], _∷_, _++_, append-nil, append-assoc}
+use mathlib.Core.Bool.{Bool, true, false, cond, _||_}
 use native.Mathlib.Omega.{arith}
-use borrow.Author.Tests.{eqb-true, eq-eqb}
-use lib.Dec.{eqb}
-use lib.ListN.{length, drop, replicate, length-append, length-replicate}
-use lib.Seq.{drop-at}
-use Rattle.bits.specs.Bits.{bitsOf, pack, Bytes}
-use Rattle.bits.specs.Reading.{Out, ok, no, mapped, aligned, toBoundary}
-use Rattle.bits.specs.Codes.{Codes}
-use Rattle.bits.proofs.Bits.{bits-pack, pack-bits, packed-bytes}
-use Rattle.bits.proofs.Codes.{codes-iff, codes-same, codes-map, codes-then, no-not-ok}
-use Rattle.bits.proofs.Elements.{codes-aligned}
+use native.Mathlib.Nat.{zero-add}
+use borrow.Author.Tests.{leb-true, le-leb, ltb-true, lt-ltb, eqb-true, eq-eqb}
+use lib.Dec.{eqb, leb}
+use lib.ListN.{length, replicate}
+use lib.IntN.{ℤ, pos, negsuc}
+use Rattle.refusals.specs.Refusals.{wrongIdentifier, wrongVersion, tooManyBlocks}
+use Rattle.tree.specs.Bits.{bit, bitsOf, Bytes}
+use Rattle.tree.specs.Reading.{between, allows, ok, toBoundary}
+use Rattle.tree.specs.Coding.{unsigned, holds, variable, fixed, widthIn, natural}
+use Rattle.tree.specs.Syntax.{Syntax, done, any, ranged, alignment, _>>=_}
+use Rattle.tree.specs.Meaning.{Element, element, zeroBit, sumOfWidths, allBits, complete, Follow, Spells}
+use Rattle.tree.proofs.Truth.{clash}
+use Rattle.tree.proofs.Bits.{packed-bytes}
+use Rattle.tree.proofs.Meaning.{widths-append}
+use Rattle.tree.proofs.Tables.{together}
+use Rattle.tree.proofs.Spells.{joined, alone, apart-complete, Goes, any-only, any-together, ranged-only, ranged-together, done-only, zeros-take, zeros-only, same-number}
+use Rattle.tree.proofs.Accepted as generic
+use Rattle.tree.proofs.Accepted.{padded-whole}
+use Rattle.record.specs.declared.Block.{Block}
 use Rattle.record.specs.declared.Record.{Record}
-use Rattle.record.specs.Valid.{mostBlocks, blocks, wellFormed, valid}
+use Rattle.record.specs.Name.{Name, «app_identifier», «app_version», «metadata_refresh_flag», «num_ext_blocks», «dm_alignment_zero_bit», «end»}
 use Rattle.record.specs.Made.{recordOf}
-use Rattle.record.proofs.Made.{blocks-made, places-made, valid-made, valid-is-made, walked, length-blocks}
-use Rattle.syntax.specs.Element.{allBits, openElements, blocksElements, elements, payload, bitsOfData}
-use Rattle.syntax.specs.Data.{Head, appIdentifier, someBlocks, blocksAfter, headAndBlocks, wholeBytes, «ST2094-10_data»}
-use Rattle.syntax.proofs.Rows.{bits-append, length-all}
-use Rattle.syntax.proofs.Blocks.{codes-blocks}
-use Rattle.syntax.proofs.Head.{Announced, codes-open, bits-to-byte}
+use Rattle.record.specs.Blocks.{mostBlocks, blocks}
+use Rattle.record.proofs.Laws.{and-right}
+use Rattle.valid.specs.Valid.{wellFormed, Proper}
+use Rattle.valid.proofs.Made.{blocks-made, places-made, valid-made, valid-is-made, walked, length-blocks}
+use Rattle.syntax.specs.Data.{Head, announced, blockCount, head, blocksAfter, firstAlignment, «ST2094-10_data», bareData}
+use Rattle.syntax.specs.Element.{variableElement, fixedElement, toByte, headElements, openElements, blocksElements, elements, payload, bitsOfData}
+use Rattle.syntax.proofs.Blocks.{blocks-take, blocks-only}
 
--- a valid record of a program, which always has its 18 places
-pub record Proper (r : Record) : Type 0 where
-  pub places : length (r .places) ≡ mostBlocks
-  pub valid-record : valid r ≡ true
+-- ---- what stands before the blocks
 
-abbrev headIn : Record → Head
-headIn r = record { refresh = r .refresh; count = r .count }
+-- never more than 18, and with the flag 0 none
+pub record Announced (h : Head) : Type 0 where
+  pub few : h .count ≤ mostBlocks
+  pub flag : h .refresh ≡ false → h .count ≡ 0
+
+abbrev pub afterFlag : ℤ → Syntax Name Head
+afterFlag f = cond (eqb (natural f) 1) blockCount (done (announced false 0))
+
+abbrev pub afterVersion : ℤ → Syntax Name Head
+afterVersion v = any «metadata_refresh_flag» (fixed (unsigned 1)) >>= afterFlag
+
+abbrev pub afterIdentifier : ℤ → Syntax Name Head
+afterIdentifier a = ranged «app_version» variable wrongVersion (pos 0) (pos 0) >>= afterVersion
+
+-- the position behind app_version
+abbrev version : ℕ → ℕ
+version at = at + widthIn variable (pos 1) + widthIn variable (pos 0)
+
+head-takes : (flag : Bool) (n : ℕ) → Announced (announced flag n) → (at : ℕ) → Follow head at (headElements flag n) (complete (announced flag n))
+unfolding head blockCount Follow
+head-takes true n a at =
+    let few = a .few in
+    ranged-together «app_identifier» variable wrongIdentifier (pos 1) (pos 1) afterIdentifier at (pos 1) _ (complete (announced true n)) refl refl
+    (ranged-together «app_version» variable wrongVersion (pos 0) (pos 0) afterVersion (at + widthIn variable (pos 1)) (pos 0) _ (complete (announced true n)) refl refl
+    (any-together «metadata_refresh_flag» (fixed (unsigned 1)) afterFlag (version at) (pos 1) _ (complete (announced true n)) refl
+    (ranged-together «num_ext_blocks» variable tooManyBlocks (pos 0) (pos mostBlocks) (λ m. done (announced true (natural m))) (version at + 1) (pos n) [] (complete (announced true n))
+    (lt-ltb (n + 1) 65536 (omega arith)) (rw (le-leb 0 n (omega arith), le-leb n mostBlocks few) refl) (refl, refl))))
+head-takes false n a at =
+    let z : n ≡ 0 = a .flag refl in
+    rw z
+    (ranged-together «app_identifier» variable wrongIdentifier (pos 1) (pos 1) afterIdentifier at (pos 1) _ (complete (announced false 0)) refl refl
+    (ranged-together «app_version» variable wrongVersion (pos 0) (pos 0) afterVersion (at + widthIn variable (pos 1)) (pos 0) _ (complete (announced false 0)) refl refl
+    (any-together «metadata_refresh_flag» (fixed (unsigned 1)) afterFlag (version at) (pos 0) _ (complete (announced false 0)) refl
+    (refl, refl))))
+
+-- the flag, and the number of blocks
+flag-only : (f : ℤ) (at : ℕ) (es : List (Element Name)) (h : Head) → holds (unsigned 1) f ≡ true → Follow (afterFlag f) at es (complete h)
+    → Announced h × (element «metadata_refresh_flag» (fixed (unsigned 1)) f ∷ es ≡ fixedElement 1 «metadata_refresh_flag» (bit (h .refresh)) ∷ cond (h .refresh) (variableElement «num_ext_blocks» (h .count) ∷ []) [])
+unfolding blockCount
+flag-only (pos zero) at es h b k =
+    let d = done-only (announced false 0) h at es k in
+    rw (d .1) (record { few = omega arith; flag = λ q. refl }, rw (d .0) refl)
+flag-only (pos (suc zero)) at es h b k =
+    let m = ranged-only «num_ext_blocks» variable tooManyBlocks (pos 0) (pos mostBlocks) (λ n. done (announced true (natural n))) at es h k in
+    let d = done-only (announced true (natural (m .0))) h (at + widthIn variable (m .0)) (m .1) (m .5) in
+    rw (d .1) (counted (m .0) (m .4) (m .2 ∙ ap (λ (l : List (Element Name)). element «num_ext_blocks» variable (m .0) ∷ l) (d .0)))
+  where
+    counted : (z : ℤ) → allows (between (pos 0) (pos mostBlocks)) z ≡ true → es ≡ element «num_ext_blocks» variable z ∷ []
+        → Announced (announced true (natural z)) × (fixedElement 1 «metadata_refresh_flag» 1 ∷ es ≡ fixedElement 1 «metadata_refresh_flag» 1 ∷ variableElement «num_ext_blocks» (natural z) ∷ [])
+    counted (pos n) a e =
+        let l = leb-true n mostBlocks (and-right (leb 0 n) (leb n mostBlocks) a) in
+        (record { few = l; flag = λ q. let z : _≡_ {A = ℕ} 0 1 = cc in clash z }, ap (λ (l : List (Element Name)). fixedElement 1 «metadata_refresh_flag» 1 ∷ l) e)
+    counted (negsuc n) a e = let z : _≡_ {A = ℕ} 0 1 = cc in clash z
+flag-only (pos (suc (suc f))) at es h b k = let l = ltb-true (suc (suc f)) 2 b in absurd (omega arith)
+flag-only (negsuc f) at es h b k = let z : _≡_ {A = ℕ} 0 1 = cc in clash z
+
+-- what stands behind app_version, and before it
+version-only : (at : ℕ) (es : List (Element Name)) (h : Head) → Goes «metadata_refresh_flag» (fixed (unsigned 1)) afterFlag at es (complete h)
+    → Announced h × (es ≡ fixedElement 1 «metadata_refresh_flag» (bit (h .refresh)) ∷ cond (h .refresh) (variableElement «num_ext_blocks» (h .count) ∷ []) [])
+version-only at es h f = let c = flag-only (f .value) (at + 1) (f .rest) h (f .held) (f .on) in (c .0, f .all ∙ c .1)
+
+pub head-only : (at : ℕ) (es : List (Element Name)) (h : Head) → Follow head at es (complete h) → Announced h × (es ≡ headElements (h .refresh) (h .count))
+unfolding head
+head-only at es h k =
+    let a = ranged-only «app_identifier» variable wrongIdentifier (pos 1) (pos 1) afterIdentifier at es h k in
+    let v = ranged-only «app_version» variable wrongVersion (pos 0) (pos 0) afterVersion (at + widthIn variable (a .0)) (a .1) h (a .5) in
+    let there = at + widthIn variable (a .0) + widthIn variable (v .0) in
+    let f = version-only there (v .1) h (any-only «metadata_refresh_flag» (fixed (unsigned 1)) afterFlag there (v .1) h (v .5)) in
+    (f .0, opens (a .0) (v .0) (a .1) (v .1) (a .2) (same-number 1 (a .0) (a .4)) (same-number 0 (v .0) (v .4)) (v .2) (f .1))
+  where
+    opens : (a v : ℤ) (k l : List (Element Name)) {m : List (Element Name)} → es ≡ element «app_identifier» variable a ∷ k → a ≡ pos 1 → v ≡ pos 0 → k ≡ element «app_version» variable v ∷ l → l ≡ m
+        → es ≡ variableElement «app_identifier» 1 ∷ variableElement «app_version» 0 ∷ m
+    opens a v k l e p q r s = e ∙ rw (r, p, q, s) refl
+
+-- ---- the whole table
+
+abbrev gap : ℕ → List (Element Name)
+gap at = replicate (toBoundary at) (zeroBit «dm_alignment_zero_bit»)
+
+abbrev pub firstGap : Bool → ℕ → List (Element Name)
+firstGap none at = cond none [] (gap at)
+
+first-takes : (none : Bool) (at : ℕ) → Follow (cond none (done tt) (alignment «dm_alignment_zero_bit»)) at (firstGap none at) (complete tt)
+unfolding Follow
+first-takes true at = (refl, refl)
+first-takes false at = zeros-take «dm_alignment_zero_bit» (toBoundary at) at
+
+pub first-only : (none : Bool) (at : ℕ) (es : List (Element Name)) → Follow (cond none (done tt) (alignment «dm_alignment_zero_bit»)) at es (complete tt) → es ≡ firstGap none at
+unfolding Follow
+first-only true at es h = h .0
+first-only false at es h = zeros-only «dm_alignment_zero_bit» (toBoundary at) at es h
+
+pub opens-with : (flag : Bool) (n : ℕ) → openElements flag n ≡ headElements flag n ++ firstGap (eqb n 0) (sumOfWidths (headElements flag n))
+opens-with flag n = go (eqb n 0)
+  where
+    go : (b : Bool) → cond b (headElements flag n) (toByte (headElements flag n)) ≡ headElements flag n ++ firstGap b (sumOfWidths (headElements flag n))
+    go true = sym (append-nil (headElements flag n))
+    go false = refl
+
+-- the elements, part by part, with the position of each
+module _ (flag : Bool) (bs : List Block) where
+  abbrev one : List (Element Name)
+  one = headElements flag (length bs)
+
+  abbrev two : List (Element Name)
+  two = firstGap (eqb (length bs) 0) (sumOfWidths one)
+
+  abbrev three : List (Element Name)
+  three = blocksElements bs
+
+  abbrev four : List (Element Name)
+  four = gap (sumOfWidths one + sumOfWidths two + sumOfWidths three)
+
+  in-parts : elements (recordOf flag bs) ≡ one ++ (two ++ (three ++ four))
+  unfolding elements
+  in-parts =
+      let o = opens-with flag (length bs) in
+      let w : sumOfWidths (openElements flag (length bs) ++ three) ≡ sumOfWidths one + sumOfWidths two + sumOfWidths three =
+      widths-append (openElements flag (length bs)) three ∙ ap (λ (n : ℕ). n + sumOfWidths three) (ap sumOfWidths o ∙ widths-append one two) in
+      rw (blocks-made flag bs, w, o, append-assoc (one ++ two) three four, append-assoc one two (three ++ four)) refl
+
+abbrev pub lastly : Head → List Block → Syntax Name Record
+lastly h bs = alignment «dm_alignment_zero_bit» >>= λ z. done (recordOf (h .refresh) bs)
+
+abbrev pub afterFirst : Head → Syntax Name Record
+afterFirst h = blocksAfter [] (h .count) >>= lastly h
+
+abbrev pub afterHead : Head → Syntax Name Record
+afterHead h = firstAlignment (h .count) >>= λ y. afterFirst h
+
+made-takes : (flag : Bool) (bs : List Block) → Announced (announced flag (length bs)) → wellFormed [] bs ≡ true → Follow «ST2094-10_data» 0 (elements (recordOf flag bs)) (complete (recordOf flag bs))
+unfolding «ST2094-10_data» Follow
+made-takes flag bs w f =
+    let r = recordOf flag bs in
+    let h = announced flag (length bs) in
+    let a = sumOfWidths (one flag bs) in
+    let b = sumOfWidths (two flag bs) in
+    let c = sumOfWidths (three flag bs) in
+    let k1 = head-takes flag (length bs) w 0 in
+    let k2 = first-takes (eqb (length bs) 0) a in
+    let k3 = blocks-take (length bs) [] bs refl f (a + b) in
+    let k4 = together (alignment «dm_alignment_zero_bit») (λ z. done r) (a + b + c) (four flag bs) [] tt (complete r) (zeros-take «dm_alignment_zero_bit» (toBoundary (a + b + c)) (a + b + c)) (refl, refl) in
+    let k5 = together (blocksAfter [] (length bs)) (lastly h) (a + b) (three flag bs) (four flag bs) bs (complete r) k3 (rw (append-nil (four flag bs)) at k4) in
+    let k6 = together (firstAlignment (length bs)) (λ y. afterFirst h) a (two flag bs) (three flag bs ++ four flag bs) tt (complete r) k2 k5 in
+    rw (in-parts flag bs) (together head afterHead 0 (one flag bs) (two flag bs ++ (three flag bs ++ four flag bs)) h (complete r) k1 (rw (zero-add a) k6))
+
+-- parts that are as they should be make the elements
+puts-together : (flag : Bool) (bs : List Block) (es f1 s1 f2 s2 f3 s3 : List (Element Name))
+    → es ≡ f1 ++ s1 → f1 ≡ one flag bs → s1 ≡ f2 ++ s2 → f2 ≡ firstGap (eqb (length bs) 0) (0 + sumOfWidths f1) → s2 ≡ f3 ++ s3 → f3 ≡ three flag bs → s3 ≡ gap (0 + sumOfWidths f1 + sumOfWidths f2 + sumOfWidths f3)
+    → es ≡ elements (recordOf flag bs)
+puts-together flag bs es f1 s1 f2 s2 f3 s3 e1 q1 e2 q2 e3 q3 q4 =
+    let r2 : f2 ≡ two flag bs = q2 ∙ rw (q1, zero-add (sumOfWidths (one flag bs))) refl in
+    let r4 : s3 ≡ four flag bs = q4 ∙ rw (q1, r2, q3, zero-add (sumOfWidths (one flag bs))) refl in
+    joined es f1 s1 (one flag bs) (two flag bs ++ (three flag bs ++ four flag bs)) e1 q1
+    (joined s1 f2 s2 (two flag bs) (three flag bs ++ four flag bs) e2 r2
+    (joined s2 f3 s3 (three flag bs) (four flag bs) e3 q3 r4)) ∙ sym (in-parts flag bs)
+
+-- what is read is made of a head and of blocks that pass the walk
+pub record Sent (es : List (Element Name)) (r : Record) : Type 0 where
+  pub flag : Bool
+  pub sent : List Block
+  pub announces : Announced (announced flag (length sent))
+  pub walk : wellFormed [] sent ≡ true
+  pub made : r ≡ recordOf flag sent
+  pub all : es ≡ elements (recordOf flag sent)
+
+data-made : (es : List (Element Name)) (r : Record) → Follow «ST2094-10_data» 0 es (complete r) → Sent es r
+unfolding «ST2094-10_data» Follow
+data-made es r k =
+    let a = apart-complete head afterHead 0 es r k in
+    let h = a .made in
+    let ha = head-only 0 (a .first) h (a .one) in
+    let at1 = 0 + sumOfWidths (a .first) in
+    let b = apart-complete (firstAlignment (h .count)) (λ y. afterFirst h) at1 (a .second) r (a .two) in
+    let hb = first-only (eqb (h .count) 0) at1 (b .first) (b .one) in
+    let at2 = at1 + sumOfWidths (b .first) in
+    let c = apart-complete (blocksAfter [] (h .count)) (lastly h) at2 (b .second) r (b .two) in
+    let hc = blocks-only (h .count) [] at2 (c .first) (c .made) (c .one) in
+    let at3 = at2 + sumOfWidths (c .first) in
+    let d = apart-complete (alignment «dm_alignment_zero_bit») (λ z. done (recordOf (h .refresh) (c .made))) at3 (c .second) r (c .two) in
+    let hd = zeros-only «dm_alignment_zero_bit» (toBoundary at3) at3 (d .first) (d .one) in
+    let e = done-only (recordOf (h .refresh) (c .made)) r (at3 + sumOfWidths (d .first)) (d .second) (d .two) in
+    record {
+      flag = h .refresh;
+      sent = c .made;
+      announces = record { few = rw (hc .0) (ha .0 .few); flag = λ z. hc .0 ∙ ha .0 .flag z };
+      walk = hc .1;
+      made = e .1;
+      all = puts-together (h .refresh) (c .made) es (a .first) (a .second) (b .first) (b .second) (c .first) (c .second) (a .all)
+          (ha .1 ∙ ap (headElements (h .refresh)) (sym (hc .0))) (b .all) (hb ∙ ap (λ (n : ℕ). firstGap (eqb n 0) at1) (sym (hc .0))) (c .all) (hc .2) (alone (c .second) (d .first) (d .second) (gap at3) (d .all) (e .0) hd);
+    }
+
+-- ---- records
 
 flag-or : (f : Bool) (n : ℕ) → (f ≡ false → n ≡ 0) → f || eqb n 0 ≡ true
 flag-or true n h = refl
@@ -39,102 +237,40 @@ flag-or false n h = eq-eqb n 0 (h refl)
 or-flag : (f : Bool) (n : ℕ) → f || eqb n 0 ≡ true → f ≡ false → n ≡ 0
 or-flag f n h e = eqb-true n 0 (rw e at h)
 
--- the blocks behind a head, as a record
-codes-rest : (h : Head) → Announced h
-    → Codes (λ t. mapped (recordOf (h .refresh)) (blocksAfter [] (h .count) t)) (λ r. allBits (blocksElements (blocks r))) (λ r. Proper r × (headIn r ≡ h))
-codes-rest h a =
-    codes-iff (λ t. mapped (recordOf (h .refresh)) (blocksAfter [] (h .count) t)) (λ r. allBits (blocksElements (blocks r)))
-    (λ r. ((length (blocks r) ≡ h .count) × (wellFormed [] (blocks r) ≡ true)) × (recordOf (h .refresh) (blocks r) ≡ r)) (λ r. Proper r × (headIn r ≡ h)) to from
-    (codes-map (blocksAfter [] (h .count)) (λ bs. allBits (blocksElements bs)) (λ bs. (length bs ≡ h .count) × (wellFormed [] bs ≡ true)) (recordOf (h .refresh)) blocks
-    (λ bs f. blocks-made (h .refresh) bs) (codes-blocks (h .count) []))
-  where
-    to : (r : Record) → ((length (blocks r) ≡ h .count) × (wellFormed [] (blocks r) ≡ true)) × (recordOf (h .refresh) (blocks r) ≡ r) → Proper r × (headIn r ≡ h)
-    to r f =
-        let bs = blocks r in
-        let n : length bs ≡ h .count = f .0 .0 in
-        let few : length bs ≤ mostBlocks = omega (arith, a .few, n) in
-        let flag : h .refresh || eqb (length bs) 0 ≡ true = rw n (flag-or (h .refresh) (h .count) (a .flag)) in
-        let p : Proper (recordOf (h .refresh) bs) = record { places = places-made (h .refresh) bs few; valid-record = valid-made (h .refresh) bs few flag (f .0 .1) } in
-        let e : headIn (recordOf (h .refresh) bs) ≡ h = rw n in
-        (rw (f .1) at p, ap headIn (sym (f .1)) ∙ e)
+data-takes : (r : Record) → Proper r → Follow «ST2094-10_data» 0 (elements r) (complete r)
+data-takes r p =
+    let w = walked r (p .valid-record) in
+    let n = length-blocks r (p .places) (w .few) in
+    let a : Announced (announced (r .refresh) (length (blocks r))) = record { few = rw n (w .few); flag = λ q. n ∙ or-flag (r .refresh) (r .count) (w .flag) q } in
+    rw (← valid-is-made r (p .places) (p .valid-record)) at (made-takes (r .refresh) (blocks r) a (w .walk))
 
-    from : (r : Record) → Proper r × (headIn r ≡ h) → ((length (blocks r) ≡ h .count) × (wellFormed [] (blocks r) ≡ true)) × (recordOf (h .refresh) (blocks r) ≡ r)
-    from r f =
-        let w = walked r (f .0 .valid-record) in
-        let c : r .count ≡ h .count = ap (λ (x : Head). x .count) (f .1) in
-        let g : r .refresh ≡ h .refresh = ap (λ (x : Head). x .refresh) (f .1) in
-        ((length-blocks r (f .0 .places) (w .few) ∙ c, w .walk), rw (← g) (sym (valid-is-made r (f .0 .places) (f .0 .valid-record))))
+data-only : (es : List (Element Name)) (r : Record) → Follow «ST2094-10_data» 0 es (complete r) → Proper r × (es ≡ elements r)
+data-only es r k =
+    let m = data-made es r k in
+    let few = m .announces .few in
+    let p : Proper (recordOf (m .flag) (m .sent)) = record {
+      places = places-made (m .flag) (m .sent) few;
+      valid-record = valid-made (m .flag) (m .sent) few (flag-or (m .flag) (length (m .sent)) (m .announces .flag)) (m .walk);
+    } in
+    rw (m .made) (p, m .all)
 
-codes-sent : Codes headAndBlocks (λ r. allBits (openElements (r .refresh) (r .count) ++ blocksElements (blocks r))) Proper
-unfolding headAndBlocks
-codes-sent =
-    codes-same headAndBlocks (λ r. allBits (openElements (r .refresh) (r .count)) ++ allBits (blocksElements (blocks r))) (λ r. allBits (openElements (r .refresh) (r .count) ++ blocksElements (blocks r))) Proper
-    (λ r f. sym (bits-append (openElements (r .refresh) (r .count)) (blocksElements (blocks r))))
-    (codes-iff headAndBlocks (λ r. allBits (openElements (r .refresh) (r .count)) ++ allBits (blocksElements (blocks r))) (λ r. Announced (headIn r) × Proper r) Proper (λ r f. f .1)
-    (λ r f. let w = walked r (f .valid-record) in (record { few = w .few; flag = or-flag (r .refresh) (r .count) (w .flag) }, f))
-    (codes-then (λ s. aligned someBlocks (appIdentifier s) s) (λ h. allBits (openElements (h .refresh) (h .count))) Announced (λ h t. mapped (recordOf (h .refresh)) (blocksAfter [] (h .count) t))
-    (λ r. allBits (blocksElements (blocks r))) Proper headIn codes-open codes-rest))
+-- THE TABLE. It is followed exactly by the elements of valid records.
+pub data-spells : Spells «ST2094-10_data» 0 elements Proper
+data-spells = record { takes = data-takes; only = data-only }
 
-codes-whole : Codes wholeBytes (λ r. allBits (elements r)) Proper
-unfolding wholeBytes elements
-codes-whole =
-    codes-same wholeBytes (λ r. sent r ++ replicate (toBoundary (length (sent r))) false) (λ r. allBits (elements r)) Proper
-    (λ r f. sym (bits-to-byte (openElements (r .refresh) (r .count) ++ blocksElements (blocks r))))
-    (codes-aligned headAndBlocks sent Proper (λ r. true) codes-sent)
-  where
-    sent : Record → List Bool
-    sent r = allBits (openElements (r .refresh) (r .count) ++ blocksElements (blocks r))
+-- ---- bytes
 
--- what was read is all that there is
-pub accepted-bits : (s : List Bool) (r : Record) (n : ℕ) → «ST2094-10_data» s ≡ ok r n → Proper r × (s ≡ allBits (elements r)) × (n ≡ bitsOfData r)
-unfolding «ST2094-10_data»
-accepted-bits s r n e = go (wholeBytes s) refl
-  where
-    ended : (q : Record) (m : ℕ) → wholeBytes s ≡ ok q m → (b : Bool) → eqb (length (drop m s)) 0 ≡ b → Proper r × (s ≡ allBits (elements r)) × (n ≡ bitsOfData r)
-    ended q m w true z =
-        let x : ok q (m + 0) ≡ ok r n = rw (w, z) at e in
-        let y : q ≡ r = cc in
-        let k : m + 0 ≡ n = cc in
-        let c = codes-whole .only s r m (w ∙ ap (λ (t : Record). ok t m) y) in
-        let d : drop m s ≡ [] = none (drop m s) (eqb-true (length (drop m s)) 0 z) in
-        (c .0, c .1 ∙ rw d (append-nil (allBits (elements r))), omega (arith, c .2, length-all (elements r)))
-      where
-        none : (l : List Bool) → length l ≡ 0 → l ≡ []
-        none [] h = refl
-        none (b ∷ l) h = absurd (omega arith)
-    ended q m w false z = no-not-ok (rw (w, z) at e)
-
-    go : (o : Out Record) → wholeBytes s ≡ o → Proper r × (s ≡ allBits (elements r)) × (n ≡ bitsOfData r)
-    go (ok q m) w = ended q m w (eqb (length (drop m s)) 0) refl
-    go (no w) q = no-not-ok (rw q at e)
-
-pub accepts-bits : (r : Record) → Proper r → «ST2094-10_data» (allBits (elements r)) ≡ ok r (bitsOfData r)
-unfolding «ST2094-10_data»
-accepts-bits r p =
-    let w : wholeBytes (allBits (elements r)) ≡ ok r (length (allBits (elements r))) = ap wholeBytes (sym (append-nil (allBits (elements r)))) ∙ codes-whole .takes r p [] in
-    let d : drop (length (allBits (elements r))) (allBits (elements r)) ≡ [] = ap (drop (length (allBits (elements r)))) (sym (append-nil (allBits (elements r)))) ∙ drop-at (allBits (elements r)) [] (length (allBits (elements r))) refl in
-    let k : length (allBits (elements r)) + 0 ≡ bitsOfData r = omega (arith, length-all (elements r)) in
-    rw (w, d, k)
-
--- whole bytes: the elements of a record end at a byte boundary
-pub whole : (r : Record) → length (allBits (elements r)) % 8 ≡ 0
+-- the elements of a record end at a byte boundary
+pub whole : (r : Record) → sumOfWidths (elements r) % 8 ≡ 0
 unfolding elements
-whole r =
-    let es = openElements (r .refresh) (r .count) ++ blocksElements (blocks r) in
-    let n = length (allBits es) in
-    rw (bits-to-byte es, length-append (allBits es) (replicate (toBoundary n) false), length-replicate (toBoundary n) false) (even n)
-  where
-    even : (n : ℕ) → (n + (8 - n % 8) % 8) % 8 ≡ 0
-    even n = omega arith
+whole r = padded-whole «dm_alignment_zero_bit» (openElements (r .refresh) (r .count) ++ blocksElements (blocks r))
 
 -- THE THEOREM. An input is accepted exactly if it is the one payload of a valid record; then the answer is that record, and the bits read are the sum of the widths of its elements.
-pub accepted-is-the-one-payload : (s : List ℕ) → Bytes s → (r : Record) (n : ℕ) → «ST2094-10_data» (bitsOf s) ≡ ok r n → Proper r × (s ≡ payload r) × (n ≡ bitsOfData r)
-accepted-is-the-one-payload s h r n e =
-    let a = accepted-bits (bitsOf s) r n e in
-    (a .0, sym (pack-bits s h) ∙ ap pack (a .1), a .2)
+pub accepted-is-the-one-payload : (s : List ℕ) → Bytes s → (r : Record) (n : ℕ) → bareData (bitsOf s) ≡ ok r n → Proper r × (s ≡ payload r) × (n ≡ bitsOfData r)
+accepted-is-the-one-payload = generic.accepted-means «end» «ST2094-10_data» elements Proper data-spells whole
 
-pub the-payload-is-accepted : (r : Record) → Proper r → «ST2094-10_data» (bitsOf (payload r)) ≡ ok r (bitsOfData r)
-the-payload-is-accepted r p = rw (bits-pack (allBits (elements r)) (whole r)) (accepts-bits r p)
+pub the-payload-is-accepted : (r : Record) → Proper r → bareData (bitsOf (payload r)) ≡ ok r (bitsOfData r)
+the-payload-is-accepted = generic.what-fits-is-accepted «end» «ST2094-10_data» elements Proper data-spells whole
 
 pub payload-bytes : (r : Record) → Bytes (payload r)
 payload-bytes r = packed-bytes (length (allBits (elements r)) / 8) (allBits (elements r))

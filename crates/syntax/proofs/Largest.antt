@@ -1,39 +1,31 @@
 -- The largest payload: no valid record has a longer one than `largest`, and that one has 224 bytes.
-use Prim.Native.Nat.{ℕ, zero, suc, _+_, _-_, _*_, _/_, _≤_}
+use Prim.Native.Nat.{ℕ, _+_, _*_, _/_, _≤_}
 use mathlib.Core.Path.{_≡_, refl, ap, _∙_}
 use mathlib.Core.List.{List, [], _∷_, _++_}
 use mathlib.Core.Bool.{Bool, true, false, cond}
 use native.Mathlib.Omega.{arith}
 use lib.Dec.{eqb}
-use lib.ListN.{length, replicate}
-use Rattle.bits.specs.Coding.{totalWidth, holdAll}
-use Rattle.bits.specs.Codes.{halvings}
-use Rattle.bits.specs.Reading.{toBoundary}
-use Rattle.bits.proofs.Bits.{length-packed}
-use Rattle.bits.proofs.Elements.{zeros-few}
+use lib.ListN.{length}
+use Rattle.tree.specs.Codes.{halvings}
+use Rattle.tree.specs.Reading.{toBoundary}
+use Rattle.tree.specs.Meaning.{Element, allBits, sumOfWidths, fieldElements}
+use Rattle.tree.specs.Coding.{totalWidth, holdAll}
+use Rattle.tree.proofs.Bits.{length-packed}
+use Rattle.tree.proofs.Elements.{zeros-few}
+use Rattle.tree.proofs.Meaning.{widths-append, length-all}
+use Rattle.tree.proofs.Accepted.{widths-zeros}
 use Rattle.record.specs.declared.Block.{Block}
 use Rattle.record.specs.declared.Block.the-variants.{Nothing, Level1, Level2, Level5}
 use Rattle.record.specs.declared.Record.{Record}
 use Rattle.record.specs.Name.{Name}
-use Rattle.record.specs.Valid.{mostBlocks, blocks, many, valid, every, targets, among, allDiffer}
-use Rattle.record.proofs.Clauses.{valid-means}
-use Rattle.syntax.specs.Element.{Element, allBits, sumOfWidths, zeroBit, toByte, fieldElements, blockElements, blocksElements, headElements, openElements, elements, payload, bitsOfData}
+use Rattle.record.specs.Blocks.{mostBlocks, blocks}
+use Rattle.valid.specs.Valid.{many, valid, every, targets, among, allDiffer, Proper}
+use Rattle.valid.proofs.Clauses.{valid-means}
+use Rattle.syntax.specs.Element.{toByte, blockElements, blocksElements, headElements, openElements, elements, payload, bitsOfData}
 use Rattle.syntax.specs.Largest.{largest, trims}
-use Rattle.syntax.proofs.Rows.{length-all}
-use Rattle.syntax.proofs.Exact.{Proper}
-
-pub widths-append : (es fs : List Element) → sumOfWidths (es ++ fs) ≡ sumOfWidths es + sumOfWidths fs
-unfolding sumOfWidths
-widths-append [] fs = omega arith
-widths-append (e ∷ es) fs = omega (arith, widths-append es fs)
-
-widths-zeros : (n : ℕ) (name : Name) → sumOfWidths (replicate n (zeroBit name)) ≡ n
-unfolding sumOfWidths
-widths-zeros zero name = refl
-widths-zeros (suc n) name = omega (arith, widths-zeros n name)
 
 -- 01's table: a whole block of level 1 has 53 bits, of level 2 103, of level 5 71
-widths-blocks : (bs : List Block) → sumOfWidths (blocksElements bs) ≡ 9 * many 0 bs + 53 * many 1 bs + 103 * many 2 bs + 71 * many 5 bs
+pub widths-blocks : (bs : List Block) → sumOfWidths (blocksElements bs) ≡ 9 * many 0 bs + 53 * many 1 bs + 103 * many 2 bs + 71 * many 5 bs
 unfolding sumOfWidths blocksElements many fieldElements totalWidth halvings
 widths-blocks [] = refl
 widths-blocks (Nothing ∷ bs) = omega (arith, widths-append (blockElements Nothing) (blocksElements bs), widths-blocks bs)
@@ -41,15 +33,15 @@ widths-blocks (Level1 min max avg ∷ bs) = omega (arith, widths-append (blockEl
 widths-blocks (Level2 t s o p c g m ∷ bs) = omega (arith, widths-append (blockElements (Level2 t s o p c g m)) (blocksElements bs), widths-blocks bs)
 widths-blocks (Level5 l r t b ∷ bs) = omega (arith, widths-append (blockElements (Level5 l r t b)) (blocksElements bs), widths-blocks bs)
 
-pub widths-to-byte : (es : List Element) → sumOfWidths (toByte es) ≡ sumOfWidths es + toBoundary (sumOfWidths es)
+pub widths-to-byte : (es : List (Element Name)) → sumOfWidths (toByte es) ≡ sumOfWidths es + toBoundary (sumOfWidths es)
 widths-to-byte es = widths-append es _ ∙ ap (λ (n : ℕ). sumOfWidths es + n) (widths-zeros (toBoundary (sumOfWidths es)) _)
 
-widths-head : (flag : Bool) (n : ℕ) → n ≤ mostBlocks → sumOfWidths (headElements flag n) ≤ 14
+pub widths-head : (flag : Bool) (n : ℕ) → n ≤ mostBlocks → sumOfWidths (headElements flag n) ≤ 14
 unfolding sumOfWidths halvings
 widths-head true n h = omega (arith, zeros-few 4 n (omega arith))
 widths-head false n h = omega arith
 
-widths-open : (flag : Bool) (n : ℕ) → n ≤ mostBlocks → sumOfWidths (openElements flag n) ≤ 16
+pub widths-open : (flag : Bool) (n : ℕ) → n ≤ mostBlocks → sumOfWidths (openElements flag n) ≤ 16
 widths-open flag n h = go (eqb n 0)
   where
     w : sumOfWidths (headElements flag n) ≤ 14

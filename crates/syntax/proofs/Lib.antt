@@ -1,6 +1,9 @@
-pub mod Rows
+pub mod Limits
+pub mod Field
 pub mod Blocks
-pub mod Head
 pub mod Exact
 pub mod Largest
-pub mod Refusals
+pub mod Reasons
+pub mod Stands
+pub mod Wrapped
+pub mod Steps

@@ -1,3 +1,6 @@
-pub mod Element
 pub mod Data
+pub mod Element
+pub mod Wrapper
+pub mod Reason
 pub mod Largest
+pub mod Limits

@@ -8,21 +8,22 @@ use native.Mathlib.Omega.{arith}
 use lib.IntN.{ℤ, pos}
 use lib.ListN.{length, take, drop, getD, replicate, length-append, length-drop, length-replicate}
 use lib.Seq.{getD-drop, getD-take, take-all, length-take-le}
-use Rattle.record.specs.Valid.{valid, every, many, targets, allDiffer, emptyRecord}
+use Rattle.record.specs.Blocks.{emptyRecord}
 use Rattle.record.proofs.Laws.{and-left, and-right}
+use Rattle.valid.specs.Valid.{valid, every, many, targets, allDiffer}
 use Rattle.keyed.proofs.Mapped.{All}
 use Rattle.plan.specs.Limit.{mostPoints}
-use Rattle.track.specs.declared.Point.{Point}
 use Rattle.plan.specs.Pictures.{pictures}
+use Rattle.track.specs.declared.Point.{Point}
 use Rattle.track.specs.Track.{number, cleared, padded, mayStand, allStand, isTrack}
 use Rattle.track.proofs.Tracks.{is-track}
-use Rattle.flat.specs.Flat.{flatLength, flat, numberAt, recordIn, Typed}
+use Rattle.flat.specs.Flat.{flatLength, flat, numberAt, recordIn, FitsTypes}
 use Rattle.flat.proofs.Places.{part-of, rows-at}
 use Rattle.flat.proofs.Named.{each-is, flat-names, length-flat, valid-is-typed}
 use Rattle.tables.specs.Table.{flatPoint, pointLength, flatTable, pointIn, tableIn}
 use Rattle.tables.proofs.Laws.{length-point, length-table, entry-is, places-in}
 
-module _ (ps : List Point) (typed : (i : ℕ) → i < length ps → Typed (getD ps i cleared .«record»)) where
+module _ (ps : List Point) (typed : (i : ℕ) → i < length ps → FitsTypes (getD ps i cleared .«record»)) where
   entry : (i : ℕ) → i < length ps → take pointLength (drop (pointLength * i) (flatTable ps)) ≡ flatPoint (getD ps i cleared)
   entry i h = rows-at flatPoint pointLength cleared ps i h (λ j k. length-point (getD ps j cleared) (typed j k .places))
 
@@ -57,7 +58,7 @@ module _ (ps : List Point) (typed : (i : ℕ) → i < length ps → Typed (getD 
 -- ---- the tables that a placing and a join leave
 
 abbrev pub TypedPoint : Point → Type 0
-TypedPoint p = Typed (p .«record»)
+TypedPoint p = FitsTypes (p .«record»)
 
 abbrev pub AllTyped : List Point → Type 0
 AllTyped = All pictures number TypedPoint

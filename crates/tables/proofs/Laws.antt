@@ -9,17 +9,17 @@ use lib.Dec.{ltb}
 use lib.IntN.{ℤ, pos}
 use lib.ListN.{length, take, drop, getD, set, replicate, length-map, List·getD-map, drop-of-length-le, length-replicate, getD-replicate, replicate-append-replicate}
 use lib.Seq.{paste, paste-zero, paste-suc, take-all, drop-at}
-use Rattle.record.specs.Valid.{mostBlocks}
+use Rattle.record.specs.Blocks.{mostBlocks}
 use Rattle.plan.specs.Limit.{mostPoints}
 use Rattle.plan.specs.Planning.{neither}
 use Rattle.track.specs.declared.Point.{Point}
 use Rattle.track.specs.Track.{cleared, padded}
-use Rattle.track.specs.Working.{unfilled, pointAt, chosenOf}
+use Rattle.track.specs.Inner.{unfilled, pointAt, chosenOf}
 use Rattle.flat.specs.Flat.{flatLength, rowsOf, flat}
 use Rattle.flat.proofs.Rows.{paste-more}
 use Rattle.flat.proofs.Places.{length-each, rows-at, length-rows, Even}
 use Rattle.flat.proofs.Named.{each-at, length-flat, length-in, empty-is-zeros}
-use Rattle.tables.specs.Table.{flatPoint, pointLength, flatTable, tableLength, zeros, pointIn, tableIn}
+use Rattle.tables.specs.Table.{flatPoint, pointLength, flatTable, tableLength, zeroRow, pointIn, tableIn}
 
 pub length-table : (l : List ℤ) → length (tableIn l) ≡ mostPoints
 unfolding tableIn
@@ -34,16 +34,16 @@ table-at l i h = entry-is l i unfilled h
 
 -- ---- zeros
 
-pub length-zeros : (n : ℕ) → length (zeros n) ≡ n
-unfolding zeros
+pub length-zeros : (n : ℕ) → length (zeroRow n) ≡ n
+unfolding zeroRow
 length-zeros n = length-replicate n (pos 0)
 
-pub zeros-at : (n i : ℕ) → i < n → getD (zeros n) i (pos 0) ≡ pos 0
-unfolding zeros
+pub zeros-at : (n i : ℕ) → i < n → getD (zeroRow n) i (pos 0) ≡ pos 0
+unfolding zeroRow
 zeros-at n i h = getD-replicate n i (pos 0) (pos 0) h
 
-pub all-zeros : (d : List ℤ) (n : ℕ) → length d ≡ n → take n (zeros n) ++ drop n d ≡ zeros n
-all-zeros d n e = rw (take-all n (zeros n) (omega (arith, length-zeros n)), drop-of-length-le d {i = n} (omega arith)) (append-nil (zeros n))
+pub all-zeros : (d : List ℤ) (n : ℕ) → length d ≡ n → take n (zeroRow n) ++ drop n d ≡ zeroRow n
+all-zeros d n e = rw (take-all n (zeroRow n) (omega (arith, length-zeros n)), drop-of-length-le d {i = n} (omega arith)) (append-nil (zeroRow n))
 
 -- ---- a point
 
@@ -114,32 +114,32 @@ pasted-by false d s e f = sym (paste-zero d 0 s)
 
 -- ---- cleared entries
 
-join-zeros : (m n : ℕ) → zeros m ++ zeros n ≡ zeros (m + n)
-unfolding zeros
+join-zeros : (m n : ℕ) → zeroRow m ++ zeroRow n ≡ zeroRow (m + n)
+unfolding zeroRow
 join-zeros m n = replicate-append-replicate m n (pos 0)
 
-drop-zeros : (m n : ℕ) → drop m (zeros (m + n)) ≡ zeros n
-drop-zeros m n = ap (drop m) (sym (join-zeros m n)) ∙ drop-at (zeros m) (zeros n) m (length-zeros m)
+drop-zeros : (m n : ℕ) → drop m (zeroRow (m + n)) ≡ zeroRow n
+drop-zeros m n = ap (drop m) (sym (join-zeros m n)) ∙ drop-at (zeroRow m) (zeroRow n) m (length-zeros m)
 
 -- picture 0 with the empty record is all zeros
-pub cleared-is-zeros : flatPoint cleared ≡ zeros pointLength
-unfolding flatPoint cleared zeros
+pub cleared-is-zeros : flatPoint cleared ≡ zeroRow pointLength
+unfolding flatPoint cleared zeroRow
 cleared-is-zeros = ap (λ (l : List ℤ). pos 0 ∷ l) empty-is-zeros
 
-pub cleared-are-zeros : (n : ℕ) → flatTable (replicate n cleared) ≡ zeros (pointLength * n)
-unfolding rowsOf zeros
+pub cleared-are-zeros : (n : ℕ) → flatTable (replicate n cleared) ≡ zeroRow (pointLength * n)
+unfolding rowsOf zeroRow
 cleared-are-zeros zero = refl
 cleared-are-zeros (suc n) =
     let e : pointLength + pointLength * n ≡ pointLength * suc n = omega arith in
-    ap (λ (l : List ℤ). l ++ flatTable (replicate n cleared)) cleared-is-zeros ∙ ap (λ (l : List ℤ). zeros pointLength ++ l) (cleared-are-zeros n)
-    ∙ join-zeros pointLength (pointLength * n) ∙ ap zeros e
+    ap (λ (l : List ℤ). l ++ flatTable (replicate n cleared)) cleared-is-zeros ∙ ap (λ (l : List ℤ). zeroRow pointLength ++ l) (cleared-are-zeros n)
+    ∙ join-zeros pointLength (pointLength * n) ∙ ap zeroRow e
 
 -- what a placing leaves: no point, or one
-pub placed-none : zeros tableLength ≡ flatTable (padded [])
+pub placed-none : zeroRow tableLength ≡ flatTable (padded [])
 placed-none = sym (cleared-are-zeros mostPoints)
 
-pub placed-one : (p : Point) → length (flatPoint p) ≡ pointLength → paste (zeros tableLength) 0 (flatPoint p) pointLength ≡ flatTable (padded (p ∷ []))
+pub placed-one : (p : Point) → length (flatPoint p) ≡ pointLength → paste (zeroRow tableLength) 0 (flatPoint p) pointLength ≡ flatTable (padded (p ∷ []))
 unfolding rowsOf
 placed-one p e =
-    ap (λ (l : List ℤ). l ++ drop (0 + pointLength) (zeros tableLength)) (take-all pointLength (flatPoint p) (omega arith))
-    ∙ ap (λ (l : List ℤ). flatPoint p ++ l) (drop-zeros pointLength (pointLength * 63) ∙ sym (cleared-are-zeros 63))
+    ap (λ (l : List ℤ). l ++ drop (0 + pointLength) (zeroRow tableLength)) (take-all pointLength (flatPoint p) (omega arith))
+    ∙ ap (λ (l : List ℤ). flatPoint p ++ l) (drop-zeros pointLength (pointLength * (mostPoints - 1)) ∙ sym (cleared-are-zeros (mostPoints - 1)))

@@ -8,7 +8,7 @@ use lib.ListN.{take, drop, replicate}
 use Rattle.plan.specs.declared.Layout.{Layout}
 use Rattle.plan.specs.Limit.{mostPoints}
 use Rattle.track.specs.declared.Point.{Point}
-use Rattle.track.specs.Working.{chosenOf}
+use Rattle.track.specs.Inner.{chosenOf}
 use Rattle.flat.specs.Flat.{flatLength, rowsOf, flat, numberAt, recordIn, each}
 
 -- a point is its picture, then its record's numbers
@@ -28,8 +28,8 @@ abbrev pub tableLength : ℕ
 tableLength = pointLength * mostPoints
 
 -- a row of n zeros
-unfoldable pub zeros : ℕ → List ℤ
-zeros n = replicate n (pos 0)
+unfoldable pub zeroRow : ℕ → List ℤ
+zeroRow n = replicate n (pos 0)
 
 -- the point that the numbers of the entry i name; numbers that name no record are treated as one that is not valid
 unfoldable pub pointIn : List ℤ → ℕ → Point

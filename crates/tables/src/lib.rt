@@ -1,21 +1,20 @@
-// Tables of points as rows of numbers, for callers that have no Point: 147 numbers for each of the 64 points, its picture and then
-// its record's. They are read and written where they lie; none is copied.
+// Tables of points as rows of numbers, for callers that have no Point: for each of the 64 points its picture and then its record's
+// numbers. They are read and written where they lie; none is copied.
 use plan::Layout;
 use plan::Scanned;
-use record::Record;
 use track::Point;
 ghost use mathlib.Core.Path.{_≡_};
 ghost use Prim.Native.Nat.{_+_, _*_, _<_};
 ghost use lib.ListN.{length};
 ghost use lib.Seq.{paste};
 ghost use Rattle.plan.specs.Limit.{mostPoints};
-ghost use Rattle.track.specs.Working.{scanOf, chosenOf};
-ghost use Rattle.tables.specs.Table.{flatPoint, pointLength, tableLength, zeros, pointIn, tableIn, filledAs};
+ghost use Rattle.track.specs.Inner.{scanOf, chosenOf};
+ghost use Rattle.tables.specs.Table.{flatPoint, pointLength, tableLength, zeroRow, pointIn, tableIn, filledAs};
 
 // How many numbers a point has, and a table.
-const POINT: usize = 147;
+const POINT: usize = 1 + flat::NUMBERS;
 
-pub const NUMBERS: usize = 9408;
+pub const NUMBERS: usize = POINT * plan::POINTS;
 
 pub fn get_point(table: &[i32], i: usize) -> Point
     requires { ⌜ (length (now table) ≡ tableLength) × (i < mostPoints) ⌝ }
@@ -44,7 +43,7 @@ pub fn put_point(table: &mut [i32], i: usize, point: Point)
 // Every entry becomes picture 0 with the empty record, whose numbers are zeros.
 pub fn clear(table: &mut [i32])
     requires { ⌜ length (now table) ≡ tableLength ⌝ }
-    ensures { λ _. ⌜ now (table .exit) ≡ zeros tableLength ⌝ }
+    ensures { λ _. ⌜ now (table .exit) ≡ zeroRow tableLength ⌝ }
 {
     let mut i: usize = 0;
     while i < NUMBERS {
@@ -82,10 +81,7 @@ fn chosen(first: &[i32], second: &[i32], source: u8) -> Point
         let j = plan::right(source);
         return get_point(second, j);
     }
-    Point {
-        picture: 0,
-        record: Record::empty(),
-    }
+    track::cleared_point()
 }
 
 // Writes each entry of the result, as the layout has it; none where it is a refusal.

@@ -13,13 +13,13 @@ use lib.Seq.{ext-getD, getD-set-same, getD-set-other}
 use mir.Val.{Val}
 use denote.Laws.{Is}
 use denote.Struct.Field.{u8-field}
-use Rattle.track.specs.declared.Point.{Point}
 use Rattle.plan.specs.declared.Layout.{Layout}
 use Rattle.plan.specs.Limit.{mostPoints}
 use Rattle.plan.specs.Planning.{neither, boundOf, sourceAt, leftOf, rightOf}
-use Rattle.track.specs.Track.{cleared}
-use Rattle.track.specs.Working.{unfilled, pointAt, setTo, chosenOf, filledTo}
 use Rattle.plan.proofs.Layout as L
+use Rattle.track.specs.declared.Point.{Point}
+use Rattle.track.specs.Track.{cleared}
+use Rattle.track.specs.Inner.{unfilled, pointAt, setTo, chosenOf, filledTo}
 
 pub set-to-length : (ys : List Point) (f : ℕ → Point) (i : ℕ) → length (setTo ys f i) ≡ length ys
 set-to-length ys f zero = refl
@@ -40,18 +40,18 @@ mapped-at g [] k h = absurd (not-suc-le-zero h)
 mapped-at g (c ∷ cs) zero h = refl
 mapped-at g (c ∷ cs) (suc k) h = mapped-at g cs k (le-of-suc-le-suc h)
 
-set-to-all : (ys : List Point) (g : ℕ → Point) (cs : List ℕ) → length ys ≡ 64 → length cs ≡ 64 → setTo ys (λ (k : ℕ). g (getD cs k 0)) 64 ≡ map g cs
+set-to-all : (ys : List Point) (g : ℕ → Point) (cs : List ℕ) → length ys ≡ mostPoints → length cs ≡ mostPoints → setTo ys (λ (k : ℕ). g (getD cs k 0)) mostPoints ≡ map g cs
 set-to-all ys g cs e f =
     let h : ℕ → Point = (λ k. g (getD cs k 0)) in
-    ext-getD unfilled (setTo ys h 64) (map g cs) (set-to-length ys h 64 ∙ e ∙ sym (length-map cs g ∙ f))
-    (λ k l. let m : k < 64 = subst (λ (m : ℕ). k < m) (set-to-length ys h 64 ∙ e) l in
-    set-to-at ys h 64 k (omega (arith, e)) m ∙ sym (mapped-at g cs k (subst (λ (n : ℕ). k < n) (sym f) m)))
+    ext-getD unfilled (setTo ys h mostPoints) (map g cs) (set-to-length ys h mostPoints ∙ e ∙ sym (length-map cs g ∙ f))
+    (λ k l. let m : k < mostPoints = subst (λ (m : ℕ). k < m) (set-to-length ys h mostPoints ∙ e) l in
+    set-to-at ys h mostPoints k (omega (arith, e)) m ∙ sym (mapped-at g cs k (subst (λ (n : ℕ). k < n) (sym f) m)))
 
-set-to-by : (ys : List Point) (g : ℕ → Point) (cs : List ℕ) (b : Bool) → (b ≡ true → length ys ≡ 64) → length cs ≡ 64 → setTo ys (λ (k : ℕ). g (getD cs k 0)) (cond b 64 0) ≡ cond b (map g cs) ys
+set-to-by : (ys : List Point) (g : ℕ → Point) (cs : List ℕ) (b : Bool) → (b ≡ true → length ys ≡ mostPoints) → length cs ≡ mostPoints → setTo ys (λ (k : ℕ). g (getD cs k 0)) (cond b mostPoints 0) ≡ cond b (map g cs) ys
 set-to-by ys g cs true e f = set-to-all ys g cs (e refl) f
 set-to-by ys g cs false e f = refl
 
-pub fill-is : (ys a b : List Point) (l : Layout) → (l .result ≡ 0 → length ys ≡ 64) → length (l .sources) ≡ 64 → setTo ys (λ (k : ℕ). chosenOf a b (sourceAt l k)) (boundOf l) ≡ filledTo ys a b l
+pub fill-is : (ys a b : List Point) (l : Layout) → (l .result ≡ 0 → length ys ≡ mostPoints) → length (l .sources) ≡ mostPoints → setTo ys (λ (k : ℕ). chosenOf a b (sourceAt l k)) (boundOf l) ≡ filledTo ys a b l
 fill-is ys a b l e f = set-to-by ys (chosenOf a b) (l .sources) (eqb (l .result) 0) (λ h. e (eqb-true (l .result) 0 h)) f
 
 -- ---- what a source names, by the two tests of it
@@ -64,19 +64,19 @@ chosen-second a b source e f = rw (e, f)
 pub chosen-neither : (a b : List Point) (source : ℕ) → ltb source mostPoints ≡ false → ltb source neither ≡ false → cleared ≡ chosenOf a b source
 chosen-neither a b source e f = rw (e, f)
 
-bound-by : (b : Bool) → cond b 64 0 ≤ 64
+pub bound-by : (b : Bool) → cond b mostPoints 0 ≤ mostPoints
 bound-by true = omega arith
 bound-by false = omega arith
 
-pub bound-le : (l : Layout) → boundOf l ≤ 64
+pub bound-le : (l : Layout) → boundOf l ≤ mostPoints
 bound-le l = bound-by (eqb (l .result) 0)
 
-within-by : (b : Bool) (i : ℕ) → i < cond b 64 0 → b ≡ true
+pub within-by : (b : Bool) (i : ℕ) → i < cond b mostPoints 0 → b ≡ true
 within-by true i h = refl
 within-by false i h = absurd (not-suc-le-zero h)
 
 pub bound-done : (l : Layout) (i : ℕ) → i < boundOf l → l .result ≡ 0
 bound-done l i h = eqb-true (l .result) 0 (within-by (eqb (l .result) 0) i h)
 
-pub sources-length : (l : Layout) (v : Val) → Is L.the-row l (v ∷ []) → length (l .sources) ≡ 64
+pub sources-length : (l : Layout) (v : Val) → Is L.the-row l (v ∷ []) → length (l .sources) ≡ mostPoints
 sources-length l v is = sym (length-map (l .sources) (u8-field .into)) ∙ is .1 .1 .1 .1 .0 .1 .0 .1

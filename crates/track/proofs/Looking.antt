@@ -11,13 +11,15 @@ use lib.IntN.{ℤ}
 use lib.Signed.{ltZ}
 use lib.ListN.{length, take, length-map}
 use lib.Seq.{length-take-le, getD-take}
-use Rattle.keyed.specs.Keyed.{orElse, Compared, less, same, more, Above, inForceBy}
-use Rattle.plan.specs.declared.Found.{Found}
+use Rattle.refusals.specs.Refusals.{notATrack}
+use Rattle.keyed.specs.Keyed.{orElse, Compared, less, same, greater, Above, inForceBy}
+use Rattle.plan.specs.Limit.{mostPoints}
+use Rattle.plan.specs.declared.Sought.{Sought}
 use Rattle.plan.specs.Pictures.{Before, order, pictures, before-irreflexive, before-transitive}
-use Rattle.plan.specs.Seeking.{reachOf, foundAt, seekOf}
+use Rattle.plan.specs.Seeking.{reachOf, noneSought, foundAt, seekOf}
 use Rattle.track.specs.declared.Point.{Point}
 use Rattle.track.specs.Track.{number, RisingPoints, isTrack, pointInForce, noneInForce, shown, lookupAnswer}
-use Rattle.track.specs.Working.{unfilled, pointAt, scanOf, heldOf, lookFrom}
+use Rattle.track.specs.Inner.{unfilled, pointAt, scanOf, heldOf, lookFrom}
 use Rattle.track.proofs.Tracks.{scan-track, is-track, rise-rising, numbers}
 
 is : (b : Bool) → T b → b ≡ true
@@ -59,7 +61,7 @@ in-force-by k x xs (same e) a ih =
     let no : ltZ k (number x) ≡ false = isn't (ltZ k (number x)) (λ h. before-irreflexive (number x) (subst (λ (z : ℤ). Before z (number x)) e h)) in
     let none-left : reached k xs ≡ 0 = none-reached k xs (subst (λ (z : ℤ). Above pictures number z xs) (sym e) a) in
     ap (λ (r : ℕ). pickAt (x ∷ xs) (suc r)) (sym none-left) ∙ ap (λ (b : Bool). pickAt (x ∷ xs) (cond b 0 (suc (reached k xs)))) (sym no)
-in-force-by k x xs (more h) a ih =
+in-force-by k x xs (greater h) a ih =
     let no : ltZ k (number x) ≡ false = isn't (ltZ k (number x)) (λ g. before-irreflexive k (before-transitive k (number x) k g h)) in
     ap (λ (o : Option Point). orElse o (some x)) ih ∙ next-pick x xs (reached k xs) ∙ ap (λ (b : Bool). pickAt (x ∷ xs) (cond b 0 (suc (reached k xs)))) (sym no)
 
@@ -78,9 +80,6 @@ look-at : (ys : List Point) (n r : ℕ) → r ≤ n → lookFrom ys (foundAt r) 
 look-at ys n zero h = refl
 look-at ys n (suc i) h = ap (lookFrom ys) (found-suc i) ∙ ap heldOf (sym (getD-take n ys i unfilled h))
 
-abbrev not-track : Found
-not-track = record { result = 16; found = false; at = 0 }
-
 module _ (ys : List Point) (n : ℕ) (p : ℤ) where
   abbrev r : ℕ
   r = reachOf p (take n (scanOf ys n .pictures))
@@ -95,22 +94,22 @@ module _ (ys : List Point) (n : ℕ) (p : ℤ) where
       let l : length (map number (take n ys)) ≡ n = length-map (take n ys) number ∙ length-take-le n ys (let f = t .full in let w = t .few in omega (arith, f, w)) in
       omega (arith, h, l)
 
-  find-by : (b : Bool) → isTrack ys n ≡ b → lookFrom ys (cond b (foundAt r) not-track) ≡ cond b (shown (pointInForce p (take n ys))) (noneInForce 16)
+  find-by : (b : Bool) → isTrack ys n ≡ b → lookFrom ys (cond b (foundAt r) (noneSought notATrack)) ≡ cond b (shown (pointInForce p (take n ys))) (noneInForce notATrack)
   find-by true e =
       ap (λ (k : ℕ). lookFrom ys (foundAt k)) (r-is e) ∙ look-at ys n (reached p (take n ys)) (r-le e) ∙ ap shown (sym (in-force-at p (take n ys) (rise-rising (take n ys) (is-track ys n e .rises))))
   find-by false e = refl
 
-  abbrev pub seek : Found
+  abbrev pub seek : Sought
   seek = seekOf (scanOf ys n) n p
 
-  seek-is : seek ≡ cond (isTrack ys n) (foundAt r) not-track
-  seek-is = ap (λ (u : Bool). cond u (foundAt r) not-track) (scan-track ys n)
+  seek-is : seek ≡ cond (isTrack ys n) (foundAt r) (noneSought notATrack)
+  seek-is = ap (λ (u : Bool). cond u (foundAt r) (noneSought notATrack)) (scan-track ys n)
 
   pub look-is : lookFrom ys seek ≡ lookupAnswer ys n p
   look-is = ap (lookFrom ys) seek-is ∙ find-by (isTrack ys n) refl
 
   -- what `find` asks, and where the one read stands
-  pub few : scanOf ys n .track ≡ true → n ≤ 64
+  pub few : scanOf ys n .track ≡ true → n ≤ mostPoints
   few e = is-track ys n (sym (scan-track ys n) ∙ e) .few
 
   no-way : {X : Type 0} → false ≡ true → X
@@ -118,13 +117,13 @@ module _ (ys : List Point) (n : ℕ) (p : ℤ) where
 
   at-by : (k : ℕ) → k ≤ length ys → foundAt k .found ≡ true → foundAt k .at < length ys
   at-by zero h e = no-way e
-  at-by (suc i) h e = subst (λ (f : Found). f .at < length ys) (sym (found-suc i)) h
+  at-by (suc i) h e = subst (λ (f : Sought). f .at < length ys) (sym (found-suc i)) h
 
-  inside-by : (b : Bool) → isTrack ys n ≡ b → cond b (foundAt r) not-track .found ≡ true → cond b (foundAt r) not-track .at < length ys
+  inside-by : (b : Bool) → isTrack ys n ≡ b → cond b (foundAt r) (noneSought notATrack) .found ≡ true → cond b (foundAt r) (noneSought notATrack) .at < length ys
   inside-by true e f =
       let t = is-track ys n e in
       at-by r (let h = r-le e in let q = r-is e in let u = t .full in let w = t .few in omega (arith, h, q, u, w)) f
   inside-by false e f = no-way f
 
   pub inside : seek .found ≡ true → seek .at < length ys
-  inside f = subst (λ (g : Found). g .at < length ys) (sym seek-is) (inside-by (isTrack ys n) refl (ap (λ (g : Found). g .found) (sym seek-is) ∙ f))
+  inside f = subst (λ (g : Sought). g .at < length ys) (sym seek-is) (inside-by (isTrack ys n) refl (ap (λ (g : Sought). g .found) (sym seek-is) ∙ f))

@@ -11,11 +11,12 @@ use lib.ListN.{length, take, drop, getD, replicate}
 use lib.Seq.{length-take-le, getD-take}
 use Rattle.keyed.specs.Keyed.{join}
 use Rattle.keyed.proofs.Mapped.{join-map, rising-to, rising-from, All, join-all}
+use Rattle.plan.specs.Limit.{mostPoints}
 use Rattle.plan.specs.Pictures.{pictures}
-use Rattle.plan.specs.Planning.{leftOf, rightOf, Tag, tag, sourceOf, numberOf, tagsFrom, joinTags, RisingTags, noSources}
+use Rattle.plan.specs.Planning.{neither, leftOf, rightOf, Tag, tag, sourceOf, pictureOf, tagsFrom, joinTags, RisingTags, noSources}
 use Rattle.track.specs.declared.Point.{Point}
 use Rattle.track.specs.Track.{cleared, number, joinPoints, RisingPoints, padded}
-use Rattle.track.specs.Working.{unfilled, pointAt, chosenOf}
+use Rattle.track.specs.Inner.{unfilled, pointAt, chosenOf}
 
 -- ---- a point, and where it stands
 record Sourced : Type 0 where
@@ -56,7 +57,7 @@ joinSourced = join pictures (λ q. number (q .point))
 pub rising-tags : (c : ℕ) (l : List Point) → RisingPoints l → RisingTags (tagsFrom c (map number l))
 rising-tags c l r =
     subst RisingTags (tags-of c l)
-    (rising-to pictures numberOf stripped (sourcedFrom c l) (rising-from pictures number pointOf (sourcedFrom c l) (subst RisingPoints (sym (points-of c l)) r)))
+    (rising-to pictures pictureOf stripped (sourcedFrom c l) (rising-from pictures number pointOf (sourcedFrom c l) (subst RisingPoints (sym (points-of c l)) r)))
 
 module _ (a b : List Point) where
   abbrev Names : Sourced → Type 0
@@ -77,22 +78,22 @@ module _ (a b : List Point) where
       let on : (i : ℕ) → suc c + i ≡ c + suc i = (λ i. omega arith) in
       (ap (chosenOf a b) here ∙ h 0 (omega arith), all-named (suc c) xs (λ i g. ap (chosenOf a b) (on i) ∙ h (suc i) (omega arith)))
 
-  of-left : (i : ℕ) → i < 64 → chosenOf a b i ≡ pointAt a i
+  of-left : (i : ℕ) → i < mostPoints → chosenOf a b i ≡ pointAt a i
   of-left i h =
-      ap (λ (u : Bool). cond u (pointAt a (leftOf i)) (cond (ltb i 128) (pointAt b (rightOf i)) cleared)) (lt-ltb i 64 h)
-      ∙ ap (λ (u : Bool). pointAt a (cond u i 0)) (lt-ltb i 64 h)
+      ap (λ (u : Bool). cond u (pointAt a (leftOf i)) (cond (ltb i neither) (pointAt b (rightOf i)) cleared)) (lt-ltb i mostPoints h)
+      ∙ ap (λ (u : Bool). pointAt a (cond u i 0)) (lt-ltb i mostPoints h)
 
-  of-right : (j : ℕ) → j < 64 → chosenOf a b (64 + j) ≡ pointAt b j
+  of-right : (j : ℕ) → j < mostPoints → chosenOf a b (mostPoints + j) ≡ pointAt b j
   of-right j h =
-      let no : ltb (64 + j) 64 ≡ false = le-ltb (64 + j) 64 (omega arith) in
-      let yes : ltb (64 + j) 128 ≡ true = lt-ltb (64 + j) 128 (omega arith) in
-      ap (λ (u : Bool). cond u (pointAt a (leftOf (64 + j))) (cond (ltb (64 + j) 128) (pointAt b (rightOf (64 + j))) cleared)) no
-      ∙ ap (λ (u : Bool). cond u (pointAt b (rightOf (64 + j))) cleared) yes
-      ∙ ap (λ (u : Bool). pointAt b (cond u 0 (cond (ltb (64 + j) 128) (64 + j - 64) 0))) no
-      ∙ ap (λ (u : Bool). pointAt b (cond u (64 + j - 64) 0)) yes
+      let no : ltb (mostPoints + j) mostPoints ≡ false = le-ltb (mostPoints + j) mostPoints (omega arith) in
+      let yes : ltb (mostPoints + j) neither ≡ true = lt-ltb (mostPoints + j) neither (omega arith) in
+      ap (λ (u : Bool). cond u (pointAt a (leftOf (mostPoints + j))) (cond (ltb (mostPoints + j) neither) (pointAt b (rightOf (mostPoints + j))) cleared)) no
+      ∙ ap (λ (u : Bool). cond u (pointAt b (rightOf (mostPoints + j))) cleared) yes
+      ∙ ap (λ (u : Bool). pointAt b (cond u 0 (cond (ltb (mostPoints + j) neither) (mostPoints + j - mostPoints) 0))) no
+      ∙ ap (λ (u : Bool). pointAt b (cond u (mostPoints + j - mostPoints) 0)) yes
       ∙ ap (pointAt b) (omega arith)
 
-  module _ (n m : ℕ) (hn : n ≤ 64) (hm : m ≤ 64) (la : length a ≡ 64) (lb : length b ≡ 64) where
+  module _ (n m : ℕ) (hn : n ≤ mostPoints) (hm : m ≤ mostPoints) (la : length a ≡ mostPoints) (lb : length b ≡ mostPoints) where
     abbrev A : List Point
     A = take n a
 
@@ -100,28 +101,28 @@ module _ (a b : List Point) where
     B = take m b
 
     abbrev J : List Sourced
-    J = joinSourced (sourcedFrom 0 A) (sourcedFrom 64 B)
+    J = joinSourced (sourcedFrom 0 A) (sourcedFrom mostPoints B)
 
     named-a : AllNamed (sourcedFrom 0 A)
     named-a =
         let e : length A ≡ n = length-take-le n a (omega arith) in
         all-named 0 A (λ i g. ap (chosenOf a b) (zero-add i) ∙ of-left i (omega (arith, e)) ∙ sym (getD-take n a i unfilled (omega (arith, e))))
 
-    named-b : AllNamed (sourcedFrom 64 B)
+    named-b : AllNamed (sourcedFrom mostPoints B)
     named-b =
         let e : length B ≡ m = length-take-le m b (omega arith) in
-        all-named 64 B (λ j g. of-right j (omega (arith, e)) ∙ sym (getD-take m b j unfilled (omega (arith, e))))
+        all-named mostPoints B (λ j g. of-right j (omega (arith, e)) ∙ sym (getD-take m b j unfilled (omega (arith, e))))
 
     J-points : map pointOf J ≡ joinPoints A B
-    J-points = join-map pictures number pointOf (sourcedFrom 0 A) (sourcedFrom 64 B) ∙ ap (λ (u : List Point). joinPoints u (map pointOf (sourcedFrom 64 B))) (points-of 0 A) ∙ ap (joinPoints A) (points-of 64 B)
+    J-points = join-map pictures number pointOf (sourcedFrom 0 A) (sourcedFrom mostPoints B) ∙ ap (λ (u : List Point). joinPoints u (map pointOf (sourcedFrom mostPoints B))) (points-of 0 A) ∙ ap (joinPoints A) (points-of mostPoints B)
 
-    J-sources : map sourceOf (joinTags (tagsFrom 0 (map number A)) (tagsFrom 64 (map number B))) ≡ map sourceIn J
+    J-sources : map sourceOf (joinTags (tagsFrom 0 (map number A)) (tagsFrom mostPoints (map number B))) ≡ map sourceIn J
     J-sources =
-        ap (λ (u : List Tag). map sourceOf (joinTags u (tagsFrom 64 (map number B)))) (sym (tags-of 0 A)) ∙ ap (λ (u : List Tag). map sourceOf (joinTags (map stripped (sourcedFrom 0 A)) u)) (sym (tags-of 64 B))
-        ∙ ap (map sourceOf) (sym (join-map pictures numberOf stripped (sourcedFrom 0 A) (sourcedFrom 64 B))) ∙ sources-of J
+        ap (λ (u : List Tag). map sourceOf (joinTags u (tagsFrom mostPoints (map number B)))) (sym (tags-of 0 A)) ∙ ap (λ (u : List Tag). map sourceOf (joinTags (map stripped (sourcedFrom 0 A)) u)) (sym (tags-of mostPoints B))
+        ∙ ap (map sourceOf) (sym (join-map pictures pictureOf stripped (sourcedFrom 0 A) (sourcedFrom mostPoints B))) ∙ sources-of J
 
-    pub named-join : map (chosenOf a b) (map sourceOf (joinTags (tagsFrom 0 (map number A)) (tagsFrom 64 (map number B)))) ≡ joinPoints A B
-    named-join = ap (map (chosenOf a b)) J-sources ∙ named-points J (join-all pictures (λ q. number (q .point)) Names (sourcedFrom 0 A) (sourcedFrom 64 B) named-a named-b) ∙ J-points
+    pub named-join : map (chosenOf a b) (map sourceOf (joinTags (tagsFrom 0 (map number A)) (tagsFrom mostPoints (map number B)))) ≡ joinPoints A B
+    named-join = ap (map (chosenOf a b)) J-sources ∙ named-points J (join-all pictures (λ q. number (q .point)) Names (sourcedFrom 0 A) (sourcedFrom mostPoints B) named-a named-b) ∙ J-points
 
   -- and what stands past it
   map-drop : (g : ℕ → Point) (k : ℕ) (l : List ℕ) → map g (drop k l) ≡ drop k (map g l)
@@ -140,7 +141,7 @@ module _ (a b : List Point) where
   pub padded-join : (l : List ℕ) → map (chosenOf a b) (l ++ drop (length l) noSources) ≡ padded (map (chosenOf a b) l)
   padded-join l =
       map-append (chosenOf a b) l (drop (length l) noSources) ∙ ap (λ (u : List Point). map (chosenOf a b) l ++ u) (map-drop (chosenOf a b) (length l) noSources)
-      ∙ ap (λ (k : ℕ). map (chosenOf a b) l ++ drop k (replicate 64 cleared)) (sym (map-length (chosenOf a b) l))
+      ∙ ap (λ (k : ℕ). map (chosenOf a b) l ++ drop k (replicate mostPoints cleared)) (sym (map-length (chosenOf a b) l))
 
   pub sources-length : (l : List ℕ) → length (map (chosenOf a b) l) ≡ length l
   sources-length l = map-length (chosenOf a b) l

@@ -13,6 +13,7 @@ use denote.Ref.{now}
 use denote.Triple.Clauses.{Ended, Clauses, AtExit}
 use denote.Triple.Entry.{Args, Res}
 use Rattle.track.specs.declared.Point.{Point}
+use Rattle.track.proofs.cleared_point as cleared-point
 use Rattle.track.proofs.note_point as note-point
 use Rattle.track.proofs.lookup as lookup
 use Rattle.track.proofs.join as join
@@ -46,6 +47,9 @@ module _ {M : Type 1} (𝓤 : URA M) where
       (λ x. fact-use 𝓤 (ψ × ψ′) (via 𝓤 R (snd∗ 𝓤 L R) (two ψ ψ′ (ψ × ψ′) (λ y y′. (y, y′)))) (λ y. factI 𝓤 χ P (k (x .0) (x .1) (y .0) (y .1))))
 
   module _ (H : Heap 𝓤) (A : Atoms 𝓤) (mem : Memory → SProp 𝓤) (run : Routine → Fun 𝓤) where
+    pub cleared-point-one : OneResult 𝓤 cleared-point.ended (cleared-point.clauses 𝓤 H A mem run)
+    cleared-point-one κs a g h x y s t = two _ _ (x ≡ y) (λ e f. e ∙ sym f)
+
     pub note-point-one : OneResult 𝓤 note-point.ended (note-point.clauses 𝓤 H A mem run)
     note-point-one κs a g h x y s t = two _ _ (x ≡ y) (λ e f. e ∙ sym f)
 
@@ -55,5 +59,5 @@ module _ {M : Type 1} (𝓤 : URA M) where
     pub join-one : OneResultAndTable 𝓤 join.ended (join.clauses 𝓤 H A mem run) (λ κs s. now (s .1 .1 .1 .1 .0))
     join-one κs a g h x y s t = four _ _ _ _ ((x ≡ y) × (now (s .1 .1 .1 .1 .0) ≡ now (t .1 .1 .1 .1 .0))) (λ e e′ f f′. (e ∙ sym f, e′ ∙ sym f′))
 
-    pub place-one : OneResultAndTable 𝓤 place.ended (place.clauses 𝓤 H A mem run) (λ κs s. now (s .1 .1 .0))
-    place-one κs a g h x y s t = four _ _ _ _ ((x ≡ y) × (now (s .1 .1 .0) ≡ now (t .1 .1 .0))) (λ e e′ f f′. (e ∙ sym f, e′ ∙ sym f′))
+    pub place-one : OneResultAndTable 𝓤 place.ended (place.clauses 𝓤 H A mem run) (λ κs s. now (s .1 .0))
+    place-one κs a g h x y s t = four _ _ _ _ ((x ≡ y) × (now (s .1 .0) ≡ now (t .1 .0))) (λ e e′ f f′. (e ∙ sym f, e′ ∙ sym f′))

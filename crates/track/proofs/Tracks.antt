@@ -19,7 +19,7 @@ use Rattle.plan.specs.Pictures.{Before, pictures, before-transitive}
 use Rattle.plan.specs.Scanning.{sized, extentOf, begun}
 use Rattle.track.specs.declared.Point.{Point}
 use Rattle.track.specs.Track.{number, mayStand, allStand, riseAfter, rise, isTrack, RisingPoints}
-use Rattle.track.specs.Working.{pointAt, notedPoint, scannedTo, scanOf}
+use Rattle.track.specs.Inner.{pointAt, notedPoint, scannedTo, scanOf}
 use Rattle.track.proofs.Within.{sized-means}
 
 -- ---- the fold, by the list

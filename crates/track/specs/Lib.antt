@@ -1,2 +1,2 @@
 pub mod Track
-pub mod Working
+pub mod Inner

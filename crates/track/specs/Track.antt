@@ -7,8 +7,10 @@ use lib.IntN.{ℤ, pos}
 use lib.ListN.{length, take, drop, replicate}
 use lib.Dec.{eqb, leb}
 use lib.Signed.{ltZ}
+use Rattle.refusals.specs.Refusals.{unfitOutput, notValid, tooManyPoints, notATrack}
 use Rattle.record.specs.declared.Record.{Record}
-use Rattle.record.specs.Valid.{valid, emptyRecord}
+use Rattle.record.specs.Blocks.{emptyRecord}
+use Rattle.valid.specs.Valid.{valid}
 use Rattle.keyed.specs.Keyed.{join, heldAt, Agree, Rising, inForce}
 use Rattle.plan.specs.Limit.{mostPoints}
 use Rattle.plan.specs.Pictures.{pictures}
@@ -80,7 +82,7 @@ AgreePoints = Agree pictures number
 
 -- ---- lookup
 abbrev pub noneInForce : ℕ → InForce
-noneInForce number = record { result = number; found = false; «record» = emptyRecord }
+noneInForce result = record { result = result; found = false; «record» = emptyRecord }
 
 abbrev pub shown : Option Point → InForce
 shown none = noneInForce 0
@@ -88,7 +90,7 @@ shown (some x) = record { result = 0; found = true; «record» = x .«record» }
 
 -- lookup refuses only with 16; "nothing" is found false, which no record is
 abbrev pub lookupAnswer : List Point → ℕ → ℤ → InForce
-lookupAnswer table count picture = cond (isTrack table count) (shown (pointInForce picture (pointsOf table count))) (noneInForce 16)
+lookupAnswer table count picture = cond (isTrack table count) (shown (pointInForce picture (pointsOf table count))) (noneInForce notATrack)
 
 -- ---- join
 abbrev pub joinOf : List Point → ℕ → List Point → ℕ → List Point
@@ -97,11 +99,11 @@ joinOf a n b m = joinPoints (pointsOf a n) (pointsOf b m)
 -- first track 16, second track 16, result table 13, then 15; 0 means done
 abbrev pub joinRefusal : List Point → ℕ → List Point → ℕ → ℕ → ℕ
 joinRefusal a n b m entries =
-    cond (isTrack a n) (cond (isTrack b m) (cond (eqb entries mostPoints) (cond (leb (length (joinOf a n b m)) mostPoints) 0 15) 13) 16) 16
+    cond (isTrack a n) (cond (isTrack b m) (cond (eqb entries mostPoints) (cond (leb (length (joinOf a n b m)) mostPoints) 0 tooManyPoints) unfitOutput) notATrack) notATrack
 
 -- on a refusal the count is 0
 abbrev pub joinedAt : ℕ → List Point → Joined
-joinedAt number l = record { result = number; count = cond (eqb number 0) (length l) 0 }
+joinedAt result l = record { result = result; count = cond (eqb result 0) (length l) 0 }
 
 abbrev pub joinAnswer : List Point → ℕ → List Point → ℕ → ℕ → Joined
 joinAnswer a n b m entries = joinedAt (joinRefusal a n b m entries) (joinOf a n b m)
@@ -113,16 +115,17 @@ joinTable table a n b m = cond (eqb (joinRefusal a n b m (length table)) 0) (pad
 -- ---- placing
 
 -- a valid record placed at a picture makes a track of one point; with the flag 0 it makes the empty track
-abbrev pub placeOf : Record → ℤ → List Point
-placeOf r picture = cond (r .refresh) (record { picture = picture; «record» = r } ∷ []) []
+abbrev pub placedPoints : Point → List Point
+placedPoints x = cond (x .«record» .refresh) (x ∷ []) []
 
 -- 14, then 13; 0 means done
-abbrev pub placeRefusal : Record → ℕ → ℕ
-placeRefusal r entries = cond (valid r) (cond (eqb entries mostPoints) 0 13) 14
+abbrev pub placeRefusal : Point → ℕ → ℕ
+placeRefusal x entries = cond (valid (x .«record»)) (cond (eqb entries mostPoints) 0 unfitOutput) notValid
 
-abbrev pub placeAnswer : Record → ℤ → ℕ → Placed
-placeAnswer r picture entries = record { result = placeRefusal r entries; count = cond (eqb (placeRefusal r entries) 0) (length (placeOf r picture)) 0 }
+-- on a refusal the count is 0
+abbrev pub placeAnswer : Point → ℕ → Placed
+placeAnswer x entries = record { result = placeRefusal x entries; count = cond (eqb (placeRefusal x entries) 0) (length (placedPoints x)) 0 }
 
 -- a refused placing changes no entry
-abbrev pub placeTable : List Point → Record → ℤ → List Point
-placeTable table r picture = cond (eqb (placeRefusal r (length table)) 0) (padded (placeOf r picture)) table
+abbrev pub placeTable : List Point → Point → List Point
+placeTable table x = cond (eqb (placeRefusal x (length table)) 0) (padded (placedPoints x)) table

@@ -1,19 +1,17 @@
-// Tracks: a lent table of 64 points with a count. Placing a record, looking a picture up, joining two tracks.
+// Tracks: a lent table of 64 points with a count. Placing a point, looking a picture up, joining two tracks.
 // No table goes by value: a scan reads the lent table point by point into a small value, `plan` decides on the numbers,
 // and a fill writes the result point by point.
-use plan::Found;
 use plan::Layout;
 use plan::Scanned;
+use plan::Sought;
 use record::Record;
+use refusals::Refusal;
 ghost use mathlib.Core.Path.{_≡_};
 ghost use Prim.Native.Nat.{_<_};
 ghost use lib.ListN.{length};
 ghost use Rattle.plan.specs.Limit.{mostPoints};
 ghost use Rattle.track.specs.Track.{cleared, mayStand, lookupAnswer, joinAnswer, joinTable, placeAnswer, placeTable};
-ghost use Rattle.track.specs.Working.{notedPoint, scanOf, filledTo, answerOf, heldOf, missingOf, prepared, writeBound, entryOf, writtenTo, placeAnswerOf};
-
-// 01, Refusal numbers.
-const NOT_VALID: u8 = 14;
+ghost use Rattle.track.specs.Inner.{notedPoint, scanOf, filledTo, answerOf, heldOf, missingOf, prepared, writeBound, entryOf, writtenTo, placeAnswerOf};
 
 // A picture number, in output order, and the record in force from there on.
 pub struct Point {
@@ -22,7 +20,7 @@ pub struct Point {
 }
 
 // An entry past a track's count: picture 0 with the empty record.
-fn cleared_point() -> Point
+pub fn cleared_point() -> Point
     ensures { λ r. ⌜ r ≡ cleared ⌝ }
 {
     Point {
@@ -35,7 +33,7 @@ fn cleared_point() -> Point
 fn may_stand(shown: Record) -> bool
     ensures { λ r. ⌜ r ≡ mayStand shown ⌝ }
 {
-    shown.refresh & record::is_valid(shown)
+    shown.refresh & valid::is_valid(shown)
 }
 
 // A scan's turn. A point's inside is seen here and nowhere else in a scan.
@@ -53,9 +51,9 @@ pub fn note_point(seen: Scanned, index: usize, point: Point) -> Scanned
 fn scan(table: &[Point], count: usize) -> Scanned
     ensures { λ r. ⌜ r ≡ scanOf (now (table .entry)) count ⌝ }
 {
-    let length = table.len();
-    let extent = plan::extent(length, count);
-    let mut seen = plan::begin(length, count);
+    let entries = table.len();
+    let extent = plan::extent(entries, count);
+    let mut seen = plan::begin(entries, count);
     let mut i = 0;
     while i < extent {
         let point = table[i];
@@ -139,7 +137,7 @@ fn held(point: Point) -> InForce
     }
 }
 
-fn missing(sought: Found) -> InForce
+fn missing(sought: Sought) -> InForce
     ensures { λ r. ⌜ r ≡ missingOf sought ⌝ }
 {
     InForce {
@@ -157,7 +155,7 @@ pub fn lookup(table: &[Point], count: usize, picture: i32) -> InForce
     let sought = plan::seek(seen, count, picture);
     let is_found = plan::is_found(sought);
     if is_found {
-        let i = plan::at_of(sought);
+        let i = plan::entry_found(sought);
         let point = table[i];
         return held(point);
     }
@@ -172,23 +170,20 @@ pub struct Placing {
 }
 
 // The record is judged before the table; the flag 0 leaves no point.
-fn prepare(shown: Record, picture: i32, length: usize) -> Placing
-    ensures { λ r. ⌜ r ≡ prepared shown picture length ⌝ }
+fn prepare(point: Point, entries: usize) -> Placing
+    ensures { λ r. ⌜ r ≡ prepared point entries ⌝ }
 {
-    let point = Point {
-        picture,
-        record: shown,
-    };
-    if !record::is_valid(shown) {
+    let shown = point.record;
+    if !valid::is_valid(shown) {
         return Placing {
-            result: NOT_VALID,
+            result: Refusal::NOT_VALID,
             count: 0,
             point,
         };
     }
-    if length != plan::POINTS {
+    if entries != plan::POINTS {
         return Placing {
-            result: plan::WRONG_TABLE,
+            result: Refusal::UNFIT_OUTPUT,
             count: 0,
             point,
         };
@@ -246,11 +241,11 @@ fn place_answer(placing: Placing) -> Placed
 }
 
 // A track of one point in the lent table; with the flag 0, which says that nothing follows, the empty track.
-pub fn place(record: Record, picture: i32, table: &mut [Point]) -> Placed
-    ensures answer { λ r. ⌜ r ≡ placeAnswer «record» picture (length (now (table .entry))) ⌝ }
-    ensures table { λ _. ⌜ now (table .exit) ≡ placeTable (now (table .entry)) «record» picture ⌝ }
+pub fn place(point: Point, table: &mut [Point]) -> Placed
+    ensures answer { λ r. ⌜ r ≡ placeAnswer point (length (now (table .entry))) ⌝ }
+    ensures table { λ _. ⌜ now (table .exit) ≡ placeTable (now (table .entry)) point ⌝ }
 {
-    let placing = prepare(record, picture, table.len());
+    let placing = prepare(point, table.len());
     write(table, placing);
     place_answer(placing)
 }

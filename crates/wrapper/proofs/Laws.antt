@@ -1,86 +1,117 @@
 -- Laws of the wrapper's bytes: compared one by one, and written.
-use Prim.Native.Nat.{ℕ, zero, suc, _+_, _-_, _<_, _≤_}
-use mathlib.Core.Path.{_≡_, refl, ap, sym, subst, _∙_}
+use Prim.Native.Nat.{ℕ, zero, suc, _+_, _-_, _*_, _<_, _≤_}
+use mathlib.Core.Path.{_≡_, refl, ap, sym, _∙_}
 use mathlib.Core.List.{List, [], _∷_, _++_, append-nil}
-use mathlib.Core.Bool.{Bool, true, false}
+use mathlib.Core.Bool.{Bool, true, false, cond, _&&_}
 use native.Mathlib.Omega.{arith}
 use native.Mathlib.Numerals.{add-one}
-use borrow.Author.Tests.{eq-eqb, ne-eqb, eqb-true}
+use borrow.Author.Tests.{eq-eqb, ne-eqb, leb-true, leb-false, le-leb, lt-leb}
 use lib.Dec.{eqb}
-use lib.ListN.{length, getD, take, drop, set, drop-of-length-le, length-append, length-drop}
-use lib.Seq.{drop-cons, drop-drop, drop-at, take-all}
+use lib.IntN.{pos}
+use lib.ListN.{length, getD, take, drop, set, drop-of-length-le, length-append, length-drop, take-append-drop}
+use lib.Seq.{drop-cons, drop-drop, drop-at, take-all, length-take-le}
 use borrow.Rule.Slice.PartMut.{putMid}
-use Rattle.bits.specs.declared.Refusal.{Refusal}
-use Rattle.bits.specs.Reading.{Out, ok, no, pastEnd}
-use Rattle.bits.proofs.Codes.{no-not-ok}
+use Rattle.refusals.specs.Refusals.{refusal, pastEnd, wrapperDiffers, unfitOutput, notValid}
+use Rattle.refusals.specs.declared.Refusal.{Refusal}
+use Rattle.tree.specs.Bits.{bitsOf}
+use Rattle.tree.specs.Reading.{Fault, cutOff, numberIn, breaks, Out, ok, no, widened}
+use Rattle.tree.specs.Coding.{unsigned, fixed}
+use Rattle.tree.specs.Syntax.{rangeRule, read}
+use Rattle.tree.specs.Meaning.{Element, sumOfWidths, complete, Follow, Means}
+use Rattle.tree.specs.Wrapper.{wrapperTable}
+use Rattle.tree.proofs.Truth.{clash}
+use Rattle.tree.proofs.Bits.{length-bits, bits-append}
+use Rattle.tree.proofs.Meaning.{every-answer-is-true}
+use Rattle.tree.proofs.Spells.{ranged-only, done-only}
+use Rattle.tree.proofs.Steps.{takes-what-is-there}
+use Rattle.tree.proofs.Wrapper.{wrapper-end, wrapper-byte}
+use Rattle.output.specs.declared.Written.{Written}
+use Rattle.output.specs.Output.{written, fits, writtenAs, bufferAs}
+use Rattle.record.specs.Name.{Name, «wrapper»}
+use Rattle.syntax.specs.Data.{bareData}
+use Rattle.syntax.specs.Wrapper.{wrapperBytes, wrappedData}
+use Rattle.reader.specs.Reading.{readingOf, refusedReading}
 use Rattle.wrapper.specs.declared.Wrapper.the-variants.{There, Refused}
-use Rattle.wrapper.specs.Wrapper.{wrapperBytes, wrapperDiffers, behind, wrapperOf}
+use Rattle.wrapper.specs.Wrapper.{wrapperOf, withoutRoom}
 
-same : (b w : ℕ) (ws t : List ℕ) → b ≡ w → behind (w ∷ ws) (b ∷ t) ≡ behind ws t
-unfolding behind
-same b w ws t e = rw (eq-eqb b w e)
+-- ---- the bytes, one by one
 
--- the comparison at byte i
+-- what is read from byte i on
+abbrev pub fromByte : List ℕ → ℕ → Out Name (Unit {0})
+fromByte s i = read (wrapperTable «wrapper» (drop i wrapperBytes)) (8 * i) (bitsOf (drop i s))
+
+-- the bits that are taken already make no difference
+any-width : (n : ℕ) (o : Out Name (Unit {0})) → wrapperOf (widened n o) ≡ wrapperOf o
+any-width n (ok t m) = refl
+any-width n (no f) = refl
+
 module _ (s : List ℕ) (i : ℕ) (h : i < 8) where
-  expected : drop i wrapperBytes ≡ getD wrapperBytes i 0 ∷ drop (suc i) wrapperBytes
+  abbrev byte : ℕ
+  byte = getD wrapperBytes i 0
+
+  expected : drop i wrapperBytes ≡ byte ∷ drop (suc i) wrapperBytes
   expected = drop-cons wrapperBytes i 0 h
 
-  pub missing : length s ≤ i → behind (drop i wrapperBytes) (drop i s) ≡ no pastEnd
-  unfolding behind
-  missing l = rw (expected, drop-of-length-le s l)
+  pub missing : length s ≤ i → Refused (refusal pastEnd) ≡ wrapperOf (fromByte s i)
+  missing l =
+      let e : fromByte s i ≡ no (cutOff (8 * i) «wrapper») = rw (expected, drop-of-length-le s l) (wrapper-end «wrapper» byte (drop (suc i) wrapperBytes) (8 * i)) in
+      sym (ap wrapperOf e)
 
-  pub differs : i < length s → (getD s i 0 ≡ getD wrapperBytes i 0 → ⊥) → behind (drop i wrapperBytes) (drop i s) ≡ no wrapperDiffers
-  unfolding behind
-  differs l e = rw (expected, drop-cons s i 0 l, ne-eqb (getD s i 0) (getD wrapperBytes i 0) e)
+  module _ (l : i < length s) (b : getD s i 0 < 256) where
+    compared : fromByte s i ≡ cond (eqb (getD s i 0) byte) (widened 8 (read (wrapperTable «wrapper» (drop (suc i) wrapperBytes)) (8 * i + 8) (bitsOf (drop (suc i) s)))) (no (breaks (rangeRule «wrapper» wrapperDiffers (pos byte) (pos byte) (8 * i) (pos (getD s i 0)))))
+    compared = rw (expected, drop-cons s i 0 l) (wrapper-byte «wrapper» byte (drop (suc i) wrapperBytes) (8 * i) (getD s i 0) (drop (suc i) s) b)
 
-  pub agrees : i < length s → getD s i 0 ≡ getD wrapperBytes i 0 → behind (drop i wrapperBytes) (drop i s) ≡ behind (drop (i + 1) wrapperBytes) (drop (i + 1) s)
-  agrees l e =
-      ap (λ (ws : List ℕ). behind ws (drop i s)) expected ∙ ap (behind (getD wrapperBytes i 0 ∷ drop (suc i) wrapperBytes)) (drop-cons s i 0 l)
-      ∙ same (getD s i 0) (getD wrapperBytes i 0) (drop (suc i) wrapperBytes) (drop (suc i) s) e
-      ∙ ap (λ (j : ℕ). behind (drop j wrapperBytes) (drop j s)) (sym (add-one i))
+    pub differs : (getD s i 0 ≡ byte → ⊥) → Refused (refusal wrapperDiffers) ≡ wrapperOf (fromByte s i)
+    differs e = sym (ap wrapperOf compared ∙ rw (ne-eqb (getD s i 0) byte e) refl)
 
--- the wrapper's bytes are there, and what lies behind them is the input from its ninth byte on
-pub behind-starts : (ws s t : List ℕ) (n : ℕ) → behind ws s ≡ ok t n → s ≡ ws ++ t
-unfolding behind
-behind-starts [] s t n e = let x : s ≡ t = cc in x
-behind-starts (w ∷ ws) [] t n e = no-not-ok e
-behind-starts (w ∷ ws) (b ∷ s) t n e = go (behind-starts ws s t n) (eqb b w) refl
+    pub agrees : getD s i 0 ≡ byte → wrapperOf (fromByte s i) ≡ wrapperOf (fromByte s (i + 1))
+    agrees e =
+        let p : 8 * i + 8 ≡ 8 * (i + 1) = omega arith in
+        let on : read (wrapperTable «wrapper» (drop (suc i) wrapperBytes)) (8 * i + 8) (bitsOf (drop (suc i) s)) ≡ fromByte s (i + 1) =
+        ap (λ (j : ℕ). read (wrapperTable «wrapper» (drop j wrapperBytes)) (8 * i + 8) (bitsOf (drop j s))) (sym (add-one i))
+        ∙ ap (λ (at : ℕ). read (wrapperTable «wrapper» (drop (i + 1) wrapperBytes)) at (bitsOf (drop (i + 1) s))) p in
+        ap wrapperOf compared ∙ rw (eq-eqb (getD s i 0) byte e) (any-width 8 (read (wrapperTable «wrapper» (drop (suc i) wrapperBytes)) (8 * i + 8) (bitsOf (drop (suc i) s))) ∙ ap wrapperOf on)
+
+-- ---- what an answer says
+
+pub is-there : (o : Out Name (Unit {0})) → There ≡ wrapperOf o → (n : ℕ) × (o ≡ ok tt n)
+is-there (ok t n) e = (n, refl)
+is-there (no f) e = let z : _≡_ {A = ℕ} 0 1 = cc in clash z
+
+is-refused : (o : Out Name (Unit {0})) (r : Refusal) → Refused r ≡ wrapperOf o → (f : Fault Name) × (o ≡ no f) × (r ≡ refusal (numberIn f))
+is-refused (ok t n) r e = let z : _≡_ {A = ℕ} 0 1 = cc in clash z
+is-refused (no f) r e = (f, refl, cc)
+
+-- a refusal of the wrapper is one of the whole
+pub wrapped-no : (s : List Bool) (r : Refusal) → Refused r ≡ wrapperOf (read (wrapperTable «wrapper» wrapperBytes) 0 s) → refusedReading (r .number) ≡ readingOf (wrappedData s)
+wrapped-no s r e = go (is-refused (read (wrapperTable «wrapper» wrapperBytes) 0 s) r e)
   where
-    go : (behind ws s ≡ ok t n → s ≡ ws ++ t) → (c : Bool) → eqb b w ≡ c → b ∷ s ≡ w ∷ (ws ++ t)
-    go further true q = let f = further (rw q at e) in let x = eqb-true b w q in cc
-    go further false q = no-not-ok (rw q at e)
+    go : (f : Fault Name) × (read (wrapperTable «wrapper» wrapperBytes) 0 s ≡ no f) × (r ≡ refusal (numberIn f)) → refusedReading (r .number) ≡ readingOf (wrappedData s)
+    go (f, q, w) = ap (λ (x : Refusal). refusedReading (x .number)) w ∙ sym (rw q refl)
 
-pub behind-is : (ws s t : List ℕ) (n : ℕ) → behind ws s ≡ ok t n → (t ≡ drop (length ws) s) × (length ws ≤ length s)
-behind-is ws s t n e =
-    let q = behind-starts ws s t n e in
-    (sym (ap (drop (length ws)) q ∙ drop-at ws t (length ws) refl), omega (arith, ap length q, length-append ws t))
+-- the wrapper's bytes have eight bits each
+wrapper-width : (ws : List ℕ) (at : ℕ) (es : List (Element Name)) → Follow (wrapperTable «wrapper» ws) at es (complete tt) → sumOfWidths es ≡ 8 * length ws
+unfolding wrapperTable sumOfWidths
+wrapper-width [] at es h = ap sumOfWidths (done-only tt tt at es h .0)
+wrapper-width (w ∷ ws) at es h =
+    let m = ranged-only «wrapper» (fixed (unsigned 8)) wrapperDiffers (pos w) (pos w) (λ z. wrapperTable «wrapper» ws) at es tt h in
+    omega (arith, ap sumOfWidths (m .2), wrapper-width ws (at + 8) (m .1) (m .5))
 
-pub behind-takes : (ws t : List ℕ) → behind ws (ws ++ t) ≡ ok t 0
-unfolding behind
-behind-takes [] t = refl
-behind-takes (w ∷ ws) t = rw (eq-eqb w w refl) (behind-takes ws t)
-
--- the comparison refuses only with 1 and 3
-pub behind-refuses : (P : Refusal → Type 0) → P pastEnd → P wrapperDiffers → (ws s : List ℕ) (r : Refusal) → behind ws s ≡ no r → P r
-unfolding behind
-behind-refuses P short other [] s r e = no-not-ok (sym e)
-behind-refuses P short other (w ∷ ws) [] r e = let x : pastEnd ≡ r = cc in subst P x short
-behind-refuses P short other (w ∷ ws) (b ∷ s) r e = go (behind-refuses P short other ws s r) (eqb b w) refl
+-- where they are there, the data is what lies behind them
+pub wrapped-is : (s : List ℕ) → There ≡ wrapperOf (read (wrapperTable «wrapper» wrapperBytes) 0 (bitsOf s)) → (8 ≤ length s) × (bareData (bitsOf (drop 8 s)) ≡ wrappedData (bitsOf s))
+wrapped-is s e = go (is-there (read (wrapperTable «wrapper» wrapperBytes) 0 (bitsOf s)) e)
   where
-    go : (behind ws s ≡ no r → P r) → (c : Bool) → eqb b w ≡ c → P r
-    go further true q = further (rw q at e)
-    go further false q =
-        let f : _≡_ {A = Out (List ℕ)} (no wrapperDiffers) (no r) = rw q at e in
-        let x : wrapperDiffers ≡ r = cc in
-        subst P x other
+    go : (n : ℕ) × (read (wrapperTable «wrapper» wrapperBytes) 0 (bitsOf s) ≡ ok tt n) → (8 ≤ length s) × (bareData (bitsOf (drop 8 s)) ≡ wrappedData (bitsOf s))
+    go (n, q) =
+        let m : Means (wrapperTable «wrapper» wrapperBytes) 0 (bitsOf s) (ok tt n) = rw q at (every-answer-is-true (wrapperTable «wrapper» wrapperBytes) 0 (bitsOf s)) in
+        let w : n ≡ 64 = m .3 ∙ wrapper-width wrapperBytes 0 (m .0) (m .1) in
+        let l : 8 ≤ length s = omega (arith, w, takes-what-is-there (wrapperTable «wrapper» wrapperBytes) 0 (bitsOf s) tt n q, length-bits s) in
+        let b : bitsOf s ≡ bitsOf (take 8 s) ++ bitsOf (drop 8 s) = ap bitsOf (sym (take-append-drop 8 s)) ∙ bits-append (take 8 s) (drop 8 s) in
+        let k : length (bitsOf (take 8 s)) ≡ 64 = omega (arith, length-bits (take 8 s), length-take-le 8 s l) in
+        let d : drop 64 (bitsOf s) ≡ bitsOf (drop 8 s) = ap (drop 64) b ∙ drop-at (bitsOf (take 8 s)) (bitsOf (drop 8 s)) 64 k in
+        (l, sym (rw (q, w, d) refl))
 
-pub is-there : (o : Out (List ℕ)) → There ≡ wrapperOf o → (t : List ℕ) × (n : ℕ) × (o ≡ ok t n)
-is-there (ok t n) e = (t, n, refl)
-is-there (no r) e = let z : _≡_ {A = ℕ} 0 1 = cc in absurd (omega arith)
-
-pub is-refused : (o : Out (List ℕ)) (r : Refusal) → Refused r ≡ wrapperOf o → o ≡ no r
-is-refused (ok t n) r e = let z : _≡_ {A = ℕ} 0 1 = cc in absurd (omega arith)
-is-refused (no q) r e = cc
+-- ---- writing
 
 -- the wrapper's bytes, stored one by one
 pub stored : (l : List ℕ) → 8 ≤ length l → set (set (set (set (set (set (set (set l 0 0xB5) 1 0x00) 2 0x31) 3 0x47) 4 0x41) 5 0x39) 6 0x34) 7 0x09 ≡ wrapperBytes ++ drop 8 l
@@ -106,18 +137,60 @@ eighth (suc (suc (suc (suc (suc (suc zero)))))) l n0 n1 n2 n3 n4 n5 n6 = absurd 
 eighth (suc (suc (suc (suc (suc (suc (suc zero))))))) l n0 n1 n2 n3 n4 n5 n6 = refl
 eighth (suc (suc (suc (suc (suc (suc (suc (suc i)))))))) l n0 n1 n2 n3 n4 n5 n6 = absurd (omega arith)
 
--- the buffer after its part behind the wrapper was written: w is the buffer with the wrapper, p the later part
-pub joined : (out w p bytes : List ℕ) → 8 ≤ length out → w ≡ wrapperBytes ++ drop 8 out → p ≡ bytes ++ drop (length bytes) (drop 8 out)
-    → putMid 8 (length w - 8) w p ≡ (wrapperBytes ++ bytes) ++ drop (length (wrapperBytes ++ bytes)) out
-joined out w p bytes h e f =
-    let l : length w ≡ length out = ap length e ∙ omega (arith, length-append wrapperBytes (drop 8 out), length-drop 8 out) in
-    let n : 8 + (length w - 8) ≡ length w = omega arith in
-    let t : take 8 w ≡ wrapperBytes = ap (take 8) e in
-    let k : length (drop 8 w) ≤ length w - 8 = omega (arith, length-drop 8 w) in
-    let z : drop (length w - 8) (drop 8 w) ≡ [] = drop-of-length-le (drop 8 w) k in
-    let d : drop (length bytes) (drop 8 out) ≡ drop (length (wrapperBytes ++ bytes)) out = drop-drop (length bytes) 8 out ∙ ap (λ (k : ℕ). drop k out) (sym (length-append wrapperBytes bytes)) in
-    rw (t, z, append-nil p, f, d)
+-- the part of a buffer behind the wrapper, and the buffer after that part was written
+pub part-is : (out : List ℕ) → take (length out - 8) (drop 8 out) ≡ drop 8 out
+part-is out = take-all (length out - 8) (drop 8 out) (omega (arith, length-drop 8 out))
 
--- the part behind the wrapper, before it is written
-pub part-is : (out w : List ℕ) → w ≡ wrapperBytes ++ drop 8 out → take (length w - 8) (drop 8 w) ≡ drop 8 out
-part-is out w e = take-all (length w - 8) (drop 8 w) (omega (arith, length-drop 8 w)) ∙ ap (drop 8) e
+pub put-behind : (out p : List ℕ) → 8 ≤ length out → putMid 8 (length out - 8) out p ≡ take 8 out ++ p
+put-behind out p h =
+    let k : length (drop 8 out) ≤ length out - 8 = omega (arith, length-drop 8 out) in
+    let z : drop (length out - 8) (drop 8 out) ≡ [] = drop-of-length-le (drop 8 out) k in
+    rw (z, append-nil p)
+
+-- where the wrapper has room
+module _ (bytes : List ℕ) (good : Bool) (out : List ℕ) (h : 8 ≤ length out) where
+  -- the whole fits exactly if the data fits behind the wrapper
+  whole-fits : fits (wrapperBytes ++ bytes) out ≡ fits bytes (drop 8 out)
+  whole-fits = go (fits bytes (drop 8 out)) refl
+    where
+      go : (b : Bool) → fits bytes (drop 8 out) ≡ b → fits (wrapperBytes ++ bytes) out ≡ b
+      go true e = le-leb (length (wrapperBytes ++ bytes)) (length out) (omega (arith, leb-true (length bytes) (length (drop 8 out)) e, length-drop 8 out, length-append wrapperBytes bytes))
+      go false e = lt-leb (length (wrapperBytes ++ bytes)) (length out) (omega (arith, leb-false (length bytes) (length (drop 8 out)) e, length-drop 8 out, length-append wrapperBytes bytes))
+
+  module _ (w : Written) (e : w ≡ writtenAs bytes good (drop 8 out)) where
+    -- where the data is refused, so is the whole, and no byte changes
+    pub refused-behind : (w .result ≡ 0 → ⊥) → (w ≡ writtenAs (wrapperBytes ++ bytes) good out) × (bufferAs bytes good (drop 8 out) ≡ drop 8 out) × (out ≡ bufferAs (wrapperBytes ++ bytes) good out)
+    refused-behind n = rw whole-fits (go good (fits bytes (drop 8 out)) e)
+      where
+        go : (t u : Bool) → w ≡ cond t (cond u (written 0 (length bytes)) (written unfitOutput 0)) (written notValid 0)
+            → (w ≡ cond t (cond u (written 0 (length (wrapperBytes ++ bytes))) (written unfitOutput 0)) (written notValid 0))
+            × (cond (t && u) (bytes ++ drop (length bytes) (drop 8 out)) (drop 8 out) ≡ drop 8 out)
+            × (out ≡ cond (t && u) ((wrapperBytes ++ bytes) ++ drop (length (wrapperBytes ++ bytes)) out) out)
+        go true true f = absurd (n (ap (λ (v : Written). v .result) f))
+        go true false f = (f, refl, refl)
+        go false u f = (f, refl, refl)
+
+    -- where it is written, the wrapper before it makes the whole
+    pub written-behind : w .result ≡ 0 → (written 0 (w .bytes + 8) ≡ writtenAs (wrapperBytes ++ bytes) good out) × (wrapperBytes ++ bufferAs bytes good (drop 8 out) ≡ bufferAs (wrapperBytes ++ bytes) good out)
+    written-behind n = rw whole-fits (go good (fits bytes (drop 8 out)) e)
+      where
+        go : (t u : Bool) → w ≡ cond t (cond u (written 0 (length bytes)) (written unfitOutput 0)) (written notValid 0)
+            → (written 0 (w .bytes + 8) ≡ cond t (cond u (written 0 (length (wrapperBytes ++ bytes))) (written unfitOutput 0)) (written notValid 0))
+            × (wrapperBytes ++ cond (t && u) (bytes ++ drop (length bytes) (drop 8 out)) (drop 8 out) ≡ cond (t && u) ((wrapperBytes ++ bytes) ++ drop (length (wrapperBytes ++ bytes)) out) out)
+        go true true f =
+            let b : w .bytes ≡ length bytes = ap (λ (v : Written). v .bytes) f in
+            let k : w .bytes + 8 ≡ length (wrapperBytes ++ bytes) = omega (arith, b, length-append wrapperBytes bytes) in
+            let d : drop (length bytes) (drop 8 out) ≡ drop (length (wrapperBytes ++ bytes)) out = drop-drop (length bytes) 8 out ∙ ap (λ (m : ℕ). drop m out) (sym (length-append wrapperBytes bytes)) in
+            (ap (written 0) k, ap (λ (l : List ℕ). wrapperBytes ++ (bytes ++ l)) d)
+        go true false f = let b : w .result ≡ unfitOutput = ap (λ (v : Written). v .result) f in absurd (omega (arith, b, n))
+        go false u f = let b : w .result ≡ notValid = ap (λ (v : Written). v .result) f in absurd (omega (arith, b, n))
+
+-- without room for the wrapper
+pub no-room : (bytes : List ℕ) (good : Bool) (out : List ℕ) → length out < 8
+    → (withoutRoom good ≡ writtenAs (wrapperBytes ++ bytes) good out) × (out ≡ bufferAs (wrapperBytes ++ bytes) good out)
+no-room bytes good out h = rw (lt-leb (length (wrapperBytes ++ bytes)) (length out) (omega (arith, length-append wrapperBytes bytes))) (go good)
+  where
+    go : (t : Bool) → (withoutRoom t ≡ cond t (written unfitOutput 0) (written notValid 0))
+        × (out ≡ cond (t && false) ((wrapperBytes ++ bytes) ++ drop (length (wrapperBytes ++ bytes)) out) out)
+    go true = (refl, refl)
+    go false = (refl, refl)

@@ -1,29 +1,26 @@
 // ST2094-10_data in its ITU-T T.35 wrapper.
-use bits::Refusal;
+use output::Written;
 use reader::Reading;
 use record::Record;
-use writer::Written;
+use refusals::Refusal;
 ghost use mathlib.Core.Path.{_≡_};
 ghost use mathlib.Core.List.{_++_};
 ghost use Prim.Native.Nat.{_≤_, _<_};
 ghost use lib.ListN.{length, getD, drop};
-ghost use Rattle.bits.specs.Reading.{no};
-ghost use Rattle.record.specs.Valid.{valid};
+ghost use Rattle.tree.specs.Bits.{bitsOf};
+ghost use Rattle.tree.specs.Syntax.{read};
+ghost use Rattle.tree.specs.Wrapper.{wrapperTable};
+ghost use Rattle.output.specs.Output.{writtenAs, bufferAs};
+ghost use Rattle.record.specs.Name.{«wrapper»};
+ghost use Rattle.valid.specs.Valid.{valid};
 ghost use Rattle.syntax.specs.Element.{payload};
 ghost use Rattle.syntax.specs.Largest.{largest};
-ghost use Rattle.reader.specs.Reading.{readingOf};
-ghost use Rattle.writer.specs.Writing.{writtenAs, bufferAs};
-ghost use Rattle.wrapper.specs.Wrapper.{wrapperBytes, behind, wrapperOf, wrappedData, wrappedPayload};
-
-// 01, Refusal numbers.
-const DIFFERS: u8 = 3;
-
-const TOO_SHORT: u8 = 13;
-
-const NOT_VALID: u8 = 14;
+ghost use Rattle.syntax.specs.Wrapper.{wrapperBytes, wrappedData, wrappedPayload};
+ghost use Rattle.reader.specs.Reading.{readingOf, refusedReading};
+ghost use Rattle.wrapper.specs.Wrapper.{wrapperOf, withoutRoom};
 
 // How many bytes the wrapper has.
-const LENGTH: usize = 8;
+const WRAPPER_BYTES: usize = 8;
 
 // Whether the wrapper's bytes are there, or why not.
 enum Wrapper {
@@ -50,10 +47,10 @@ fn wrapper_byte(i: usize) -> u8
 
 // The wrapper's bytes are compared from left to right.
 fn check_wrapper(input: &[u8]) -> Wrapper
-    ensures { λ r. ⌜ r ≡ wrapperOf (behind wrapperBytes (now (input .entry))) ⌝ }
+    ensures { λ r. ⌜ r ≡ wrapperOf (read (wrapperTable «wrapper» wrapperBytes) 0 (bitsOf (now (input .entry)))) ⌝ }
 {
     let mut i: usize = 0;
-    while i < LENGTH {
+    while i < WRAPPER_BYTES {
         if input.len() <= i {
             return Wrapper::Refused {
                 why: Refusal {
@@ -63,7 +60,9 @@ fn check_wrapper(input: &[u8]) -> Wrapper
         }
         if input[i] != wrapper_byte(i) {
             return Wrapper::Refused {
-                why: Refusal { number: DIFFERS },
+                why: Refusal {
+                    number: Refusal::WRAPPER_DIFFERS,
+                },
             };
         }
         i += 1;
@@ -72,7 +71,7 @@ fn check_wrapper(input: &[u8]) -> Wrapper
 }
 
 fn refused(why: Refusal) -> Reading
-    ensures { λ r. ⌜ r ≡ readingOf (no why) ⌝ }
+    ensures { λ r. ⌜ r ≡ refusedReading (why .number) ⌝ }
 {
     let record = Record::empty();
     Reading {
@@ -84,7 +83,7 @@ fn refused(why: Refusal) -> Reading
 
 // Reads wrapped data: any bytes get an answer.
 pub fn read_wrapped(input: &[u8]) -> Reading
-    ensures { λ r. ⌜ r ≡ readingOf (wrappedData (now (input .entry))) ⌝ }
+    ensures { λ r. ⌜ r ≡ readingOf (wrappedData (bitsOf (now (input .entry)))) ⌝ }
 {
     match check_wrapper(input) {
         Wrapper::Refused { why } => refused(why),
@@ -107,36 +106,39 @@ fn put_wrapper(out: &mut [u8])
     out[7] = 0x09;
 }
 
-// Writes wrapped data: any record and any buffer get an answer.
+// The answer where not even the wrapper has room: 14 before 13.
+fn without_room(good: bool) -> Written
+    ensures { λ w. ⌜ w ≡ withoutRoom good ⌝ }
+{
+    if good {
+        return Written {
+            result: Refusal::UNFIT_OUTPUT,
+            bytes: 0,
+        };
+    }
+    Written {
+        result: Refusal::NOT_VALID,
+        bytes: 0,
+    }
+}
+
+// Writes wrapped data: any record and any buffer get an answer. The data comes first, since only its writer knows whether there is
+// room for it; where that refuses, no byte has changed.
 pub fn write_wrapped(r: Record, out: &mut [u8]) -> Written
     ensures result { λ w. ⌜ w ≡ writtenAs (wrappedPayload r) (valid r) (now (out .entry)) ⌝ }
     ensures buffer { λ w. ⌜ now (out .exit) ≡ bufferAs (wrappedPayload r) (valid r) (now (out .entry)) ⌝ }
 {
-    if record::is_valid(r) {
-        let n = writer::bytes_needed(r);
-        if out.len() < LENGTH {
-            return Written {
-                result: TOO_SHORT,
-                bytes: 0,
-            };
-        }
-        if out.len() - LENGTH < n {
-            return Written {
-                result: TOO_SHORT,
-                bytes: 0,
-            };
-        }
-        put_wrapper(out);
-        writer::write_data(r, &mut out[8..]);
-        Written {
-            result: 0,
-            bytes: n + LENGTH,
-        }
-    } else {
-        Written {
-            result: NOT_VALID,
-            bytes: 0,
-        }
+    if out.len() < WRAPPER_BYTES {
+        return without_room(valid::is_valid(r));
+    }
+    let data = writer::write_data(r, &mut out[8..]);
+    if data.result != 0 {
+        return data;
+    }
+    put_wrapper(out);
+    Written {
+        result: 0,
+        bytes: data.bytes + WRAPPER_BYTES,
     }
 }
 

@@ -1,4 +1,3 @@
 pub mod Room
 pub mod Parts
-pub mod Answers
 pub mod OneAnswer

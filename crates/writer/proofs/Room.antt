@@ -7,20 +7,24 @@ use native.Mathlib.Omega.{arith}
 use lib.Dec.{eqb}
 use lib.ListN.{length, take, getD, List·getD-map}
 use lib.Seq.{getD-take}
-use Rattle.bits.specs.Coding.{totalWidth}
-use Rattle.bits.specs.Codes.{halvings, zerosOf}
-use Rattle.bits.specs.Reading.{toBoundary}
-use Rattle.bits.proofs.Elements.{zeros-few}
+use Rattle.tree.specs.Coding.{totalWidth}
+use Rattle.tree.specs.Reading.{toBoundary}
+use Rattle.tree.specs.Meaning.{Element, sumOfWidths, fieldElements}
+use Rattle.tree.specs.Codes.{halvings, zerosOf}
+use Rattle.tree.proofs.Elements.{zeros-few}
+use Rattle.tree.proofs.Meaning.{widths-append}
 use Rattle.record.specs.declared.Block.{Block}
 use Rattle.record.specs.declared.Block.the-variants.{Nothing, Level1, Level2, Level5}
 use Rattle.record.specs.declared.Record.{Record}
+use Rattle.record.specs.Name.{Name}
 use Rattle.record.specs.Level.{level, level1, level2, level5, reserved, levelOf}
-use Rattle.record.specs.Valid.{mostBlocks, nowhere, blockIn, allBlocks, blocks, every, inRange, valid}
+use Rattle.record.specs.Blocks.{mostBlocks, emptyPlace, blockIn, allBlocks, blocks, inRange}
 use Rattle.record.proofs.Laws.{blockAt, take-more, and-left, and-right}
-use Rattle.record.proofs.Clauses.{valid-means}
-use Rattle.record.proofs.Made.{length-blocks}
-use Rattle.syntax.specs.Element.{Element, sumOfWidths, fieldElements, headElements, openElements, blockElements, blocksElements, elements, payload}
-use Rattle.syntax.proofs.Largest.{widths-append, widths-to-byte, payload-length}
+use Rattle.valid.specs.Valid.{every, valid}
+use Rattle.valid.proofs.Clauses.{valid-means}
+use Rattle.valid.proofs.Made.{length-blocks}
+use Rattle.syntax.specs.Element.{headElements, openElements, blockElements, blocksElements, elements, payload}
+use Rattle.syntax.proofs.Largest.{widths-to-byte, payload-length}
 
 -- a level's length and the zeros of its code
 pub bytes-small : (l : ℕ) → (level l .bytes ≤ 11) × (zerosOf (level l .bytes) ≤ 3)
@@ -43,12 +47,12 @@ block-width (Level5 l r t b) = refl
 blocks-append : (before bs : List Block) → blocksElements (before ++ bs) ≡ blocksElements before ++ blocksElements bs
 unfolding blocksElements
 blocks-append [] bs = refl
-blocks-append (a ∷ before) bs = ap (λ (l : List Element). blockElements a ++ l) (blocks-append before bs) ∙ sym (append-assoc (blockElements a) (blocksElements before) (blocksElements bs))
+blocks-append (a ∷ before) bs = ap (λ (l : List (Element Name)). blockElements a ++ l) (blocks-append before bs) ∙ sym (append-assoc (blockElements a) (blocksElements before) (blocksElements bs))
 
 -- one block more
 pub elements-more : (r : Record) (j : ℕ) → j < length (r .places) → blocksElements (take (j + 1) (allBlocks r)) ≡ blocksElements (take j (allBlocks r)) ++ blockElements (blockAt r j)
 unfolding blocksElements
-elements-more r j h = rw (take-more r j h) (blocks-append (take j (allBlocks r)) (blockAt r j ∷ []) ∙ ap (λ (l : List Element). blocksElements (take j (allBlocks r)) ++ l) (append-nil (blockElements (blockAt r j))))
+elements-more r j h = rw (take-more r j h) (blocks-append (take j (allBlocks r)) (blockAt r j ∷ []) ∙ ap (λ (l : List (Element Name)). blocksElements (take j (allBlocks r)) ++ l) (append-nil (blockElements (blockAt r j))))
 
 pub widths-more : (r : Record) (j : ℕ) → j < length (r .places)
     → sumOfWidths (blocksElements (take (j + 1) (allBlocks r))) ≡ sumOfWidths (blocksElements (take j (allBlocks r))) + sumOfWidths (blockElements (blockAt r j))
@@ -75,7 +79,7 @@ in-range-at r j v l h =
     let c = valid-means r v in
     let k : j < length (blocks r) = omega (arith, length-blocks r l (c .few)) in
     let e = every-at inRange (blocks r) j k (c .ranges) in
-    rw (getD-take (r .count) (allBlocks r) j Nothing h, List·getD-map blockIn (r .places) j nowhere) at e
+    rw (getD-take (r .count) (allBlocks r) j Nothing h, List·getD-map blockIn (r .places) j emptyPlace) at e
 
 -- the bits before the blocks
 pub head-width : (flag : Bool) (n : ℕ) → sumOfWidths (headElements flag n) ≡ cond flag (2 * zerosOf n + 6) 5

@@ -1,32 +1,25 @@
 // Writes a record as ST2094-10_data into a lent buffer.
+use output::Written;
 use pen::Pen;
 use record::Block;
 use record::Record;
+use refusals::Refusal;
 ghost use mathlib.Core.Path.{_≡_};
 ghost use mathlib.Core.Bool.{true, false};
 ghost use mathlib.Core.List.{_++_};
 ghost use Prim.Native.Nat.{_+_, _*_, _≤_, _<_};
 ghost use lib.ListN.{length, take, replicate};
-ghost use Rattle.bits.specs.Bits.{code};
-ghost use Rattle.bits.specs.Codes.{zerosOf};
-ghost use Rattle.bits.specs.Coding.{fieldsCode, totalWidth};
-ghost use Rattle.bits.specs.Reading.{toBoundary};
-ghost use Rattle.pen.specs.Writing.{startPen, Sound, Room, Wrote};
+ghost use Rattle.tree.specs.Bits.{code};
+ghost use Rattle.tree.specs.Codes.{zerosOf};
+ghost use Rattle.tree.specs.Coding.{fieldsCode, totalWidth};
+ghost use Rattle.tree.specs.Reading.{toBoundary};
+ghost use Rattle.tree.specs.Meaning.{allBits, sumOfWidths};
+ghost use Rattle.pen.specs.Writing.{startPen, Sound, RoomForBits, Wrote};
 ghost use Rattle.record.specs.Level.{level, codings, levelOf, valuesOf};
-ghost use Rattle.record.specs.Valid.{mostBlocks, allBlocks, blocks, inRange, valid};
-ghost use Rattle.syntax.specs.Element.{allBits, sumOfWidths, headElements, openElements, blockElements, blocksElements, elements, payload, bitsOfData};
+ghost use Rattle.record.specs.Blocks.{mostBlocks, allBlocks, blocks, inRange};
+ghost use Rattle.valid.specs.Valid.{valid};
+ghost use Rattle.syntax.specs.Element.{headElements, openElements, blockElements, blocksElements, elements, payload, bitsOfData};
 ghost use Rattle.writer.specs.Writing.{writtenOf, bufferAfter, flagCode};
-
-// 01, Refusal numbers.
-const TOO_SHORT: u8 = 13;
-
-const NOT_VALID: u8 = 14;
-
-// 0 or the number of the refusal, and how many bytes were written.
-pub struct Written {
-    pub result: u8,
-    pub bytes: usize,
-}
 
 // How many zero bits lead from bit n to the next byte boundary.
 fn to_boundary(n: usize) -> usize
@@ -91,7 +84,7 @@ pub fn bytes_needed(r: Record) -> usize
 
 // Two fields of one width.
 fn put_pair(out: &mut [u8], pen: Pen, n: usize, a: u16, b: u16) -> Pen
-    requires { ⌜ Sound pen × Room (now out) pen (n + n) × (n ≤ 16) ⌝ }
+    requires { ⌜ Sound pen × RoomForBits (now out) pen (n + n) × (n ≤ 16) ⌝ }
     ensures { λ r. ⌜ Wrote (now (out .entry)) pen (code n a ++ code n b) (now (out .exit)) r ⌝ }
 {
     let p = pen::put_u(out, pen, n, a as u32);
@@ -99,7 +92,7 @@ fn put_pair(out: &mut [u8], pen: Pen, n: usize, a: u16, b: u16) -> Pen
 }
 
 fn put_level1(out: &mut [u8], pen: Pen, min_pq: u16, max_pq: u16, avg_pq: u16) -> Pen
-    requires { ⌜ Sound pen × Room (now out) pen 36 ⌝ }
+    requires { ⌜ Sound pen × RoomForBits (now out) pen 36 ⌝ }
     ensures { λ r. ⌜ Wrote (now (out .entry)) pen ((code 12 «min_pq» ++ code 12 «max_pq») ++ code 12 «avg_pq») (now (out .exit)) r ⌝ }
 {
     let p = put_pair(out, pen, 12, min_pq, max_pq);
@@ -117,7 +110,7 @@ fn put_trims(
     chroma: u16,
     gain: u16,
 ) -> Pen
-    requires { ⌜ Sound pen × Room (now out) pen 72 ⌝ }
+    requires { ⌜ Sound pen × RoomForBits (now out) pen 72 ⌝ }
     ensures { λ r. ⌜ Wrote (now (out .entry)) pen (((code 12 target ++ code 12 slope) ++ (code 12 offset ++ code 12 power)) ++ (code 12 chroma ++ code 12 gain)) (now (out .exit)) r ⌝ }
 {
     let p = put_pair(out, pen, 12, target, slope);
@@ -126,7 +119,7 @@ fn put_trims(
 }
 
 fn put_level5(out: &mut [u8], pen: Pen, left: u16, right: u16, top: u16, bottom: u16) -> Pen
-    requires { ⌜ Sound pen × Room (now out) pen 52 ⌝ }
+    requires { ⌜ Sound pen × RoomForBits (now out) pen 52 ⌝ }
     ensures { λ r. ⌜ Wrote (now (out .entry)) pen ((code 13 left ++ code 13 right) ++ (code 13 top ++ code 13 bottom)) (now (out .exit)) r ⌝ }
 {
     let p = put_pair(out, pen, 13, left, right);
@@ -135,7 +128,7 @@ fn put_level5(out: &mut [u8], pen: Pen, left: u16, right: u16, top: u16, bottom:
 
 // The fields of a block.
 fn put_fields(out: &mut [u8], pen: Pen, b: Block) -> Pen
-    requires { ⌜ Sound pen × Room (now out) pen (totalWidth (codings (levelOf b))) × (inRange b ≡ true) ⌝ }
+    requires { ⌜ Sound pen × RoomForBits (now out) pen (totalWidth (codings (levelOf b))) × (inRange b ≡ true) ⌝ }
     ensures { λ r. ⌜ Wrote (now (out .entry)) pen (fieldsCode (codings (levelOf b)) (valuesOf b)) (now (out .exit)) r ⌝ }
 {
     match b {
@@ -184,7 +177,7 @@ fn put_fields(out: &mut [u8], pen: Pen, b: Block) -> Pen
 
 // One ext_dm_data_block.
 fn put_block(out: &mut [u8], pen: Pen, b: Block) -> Pen
-    requires { ⌜ Sound pen × Room (now out) pen (sumOfWidths (blockElements b)) × (inRange b ≡ true) ⌝ }
+    requires { ⌜ Sound pen × RoomForBits (now out) pen (sumOfWidths (blockElements b)) × (inRange b ≡ true) ⌝ }
     ensures { λ r. ⌜ Wrote (now (out .entry)) pen (allBits (blockElements b)) (now (out .exit)) r ⌝ }
 {
     let l = record::level_of(b);
@@ -198,7 +191,7 @@ fn put_block(out: &mut [u8], pen: Pen, b: Block) -> Pen
 
 // metadata_refresh_flag, and if it is 1, num_ext_blocks.
 fn put_flag(out: &mut [u8], pen: Pen, refresh: bool, count: u8) -> Pen
-    requires { ⌜ Sound pen × Room (now out) pen (length (flagCode refresh count)) ⌝ }
+    requires { ⌜ Sound pen × RoomForBits (now out) pen (length (flagCode refresh count)) ⌝ }
     ensures { λ r. ⌜ Wrote (now (out .entry)) pen (flagCode refresh count) (now (out .exit)) r ⌝ }
 {
     if refresh {
@@ -210,7 +203,7 @@ fn put_flag(out: &mut [u8], pen: Pen, refresh: bool, count: u8) -> Pen
 
 // Zero bits to the next byte boundary.
 fn put_to_byte(out: &mut [u8], pen: Pen) -> Pen
-    requires { ⌜ Sound pen × Room (now out) pen (toBoundary (8 * pen .at + pen .waiting)) ⌝ }
+    requires { ⌜ Sound pen × RoomForBits (now out) pen (toBoundary (8 * pen .at + pen .waiting)) ⌝ }
     ensures { λ r. ⌜ Wrote (now (out .entry)) pen (replicate (toBoundary (8 * pen .at + pen .waiting)) false) (now (out .exit)) r ⌝ }
 {
     let n = (8 - pen.waiting) % 8;
@@ -241,7 +234,7 @@ fn put_open(out: &mut [u8], refresh: bool, count: u8) -> Pen
 
 // The blocks of a record.
 fn put_blocks(out: &mut [u8], pen: Pen, r: Record) -> Pen
-    requires { ⌜ Sound pen × Room (now out) pen (sumOfWidths (blocksElements (blocks r))) × (valid r ≡ true) ⌝ }
+    requires { ⌜ Sound pen × RoomForBits (now out) pen (sumOfWidths (blocksElements (blocks r))) × (valid r ≡ true) ⌝ }
     ensures { λ x. ⌜ Wrote (now (out .entry)) pen (allBits (blocksElements (blocks r))) (now (out .exit)) x ⌝ }
 {
     let n = r.count;
@@ -271,11 +264,11 @@ pub fn write_data(r: Record, out: &mut [u8]) -> Written
     ensures result { λ w. ⌜ w ≡ writtenOf r (now (out .entry)) ⌝ }
     ensures buffer { λ w. ⌜ now (out .exit) ≡ bufferAfter r (now (out .entry)) ⌝ }
 {
-    if record::is_valid(r) {
+    if valid::is_valid(r) {
         let n = bytes_needed(r);
         if out.len() < n {
             return Written {
-                result: TOO_SHORT,
+                result: Refusal::UNFIT_OUTPUT,
                 bytes: 0,
             };
         }
@@ -286,7 +279,7 @@ pub fn write_data(r: Record, out: &mut [u8]) -> Written
         }
     } else {
         Written {
-            result: NOT_VALID,
+            result: Refusal::NOT_VALID,
             bytes: 0,
         }
     }

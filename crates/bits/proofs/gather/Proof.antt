@@ -4,8 +4,8 @@ use mathlib.Core.Path.{_≡_, refl}
 use mathlib.Core.Bool.{false}
 use native.Mathlib.Omega.{arith}
 use lib.ListN.{length, take, drop, getD}
-use Rattle.bits.specs.Bits.{bitsOf, value, valueFrom}
-use Rattle.bits.proofs.Bits.{length-rest, value-take-lt, bit-lt}
+use Rattle.tree.specs.Bits.{bitsOf, value, valueFrom}
+use Rattle.tree.proofs.Bits.{length-rest, value-take-lt, bit-lt}
 use Rattle.bits.proofs.Reading.{value-bit}
 use Rattle.bits.proofs.gather.Statement.{statement}
 use Rattle.bits.proofs.gather.Tie as tie

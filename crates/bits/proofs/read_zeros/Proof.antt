@@ -1,19 +1,23 @@
 -- `bits::read_zeros` meets its contract: behind k zero bits, the answer for the others is the answer for all.
-use Prim.Native.Nat.{suc, _≤_, _-_, _+_}
+use Prim.Native.Nat.{ℕ, suc, _≤_, _-_, _+_}
 use mathlib.Core.Path.{_≡_, _∙_, sym, ap}
 use native.Mathlib.Omega.{arith}
 use native.Mathlib.Nat.{add-zero}
 use mathlib.Core.Bool.{false}
 use lib.ListN.{drop, getD}
-use Rattle.bits.specs.Bits.{bitsOf, bit}
-use Rattle.bits.specs.Reading.{ok, no, more, pastEnd, notZero, numberOf, zeros}
-use Rattle.bits.proofs.Bits.{bit-lt}
-use Rattle.bits.proofs.Reading.{zeros-end, zeros-one, zeros-zero, zeros-done, more-more, more-none}
+use Rattle.refusals.specs.Refusals.{refusal, notZero}
+use Rattle.tree.specs.Bits.{bitsOf, bit}
+use Rattle.tree.specs.Reading.{ok, no, widened, cutOff}
+use Rattle.tree.specs.Syntax.{read, zeroBits}
+use Rattle.tree.proofs.Bits.{bit-lt}
+use Rattle.bits.specs.declared.Number.the-variants.{Refused}
+use Rattle.bits.specs.Answer.{nameless, spanOf}
+use Rattle.bits.proofs.Reading.{zeros-end, zeros-one, zeros-zero, widened-twice, widened-none}
 use Rattle.bits.proofs.read_zeros.Statement.{statement}
 use Rattle.bits.proofs.read_zeros.Tie as tie
 
 abbrev Inv-loop : tie.InvT-loop
-Inv-loop s at n k₀ k = (k ≤ n) × (more k (zeros (n - k) (drop (at + k) (bitsOf s))) ≡ zeros n (drop at (bitsOf s)))
+Inv-loop s at n k₀ k = (k ≤ n) × (widened k (read (zeroBits nameless (n - k)) (at + k) (drop (at + k) (bitsOf s))) ≡ read (zeroBits nameless n) at (drop at (bitsOf s)))
 
 abbrev μ-loop : tie.MeasureT-loop
 μ-loop s at n k₀ k = n - k
@@ -22,7 +26,7 @@ loop-holds : tie.Need-loop-holds Inv-loop μ-loop
 loop-holds c =
     let a = c .before .args in
     let e : a .n - 0 ≡ a .n = omega arith in
-    (omega arith, rw (e, add-zero (a .at)) (more-none (zeros (a .n) (drop (a .at) (bitsOf (a .s .now))))))
+    (omega arith, rw (e, add-zero (a .at)) (widened-none (read (zeroBits nameless (a .n)) (a .at) (drop (a .at) (bitsOf (a .s .now))))))
 
 add-if1 : tie.Need-add-if1 Inv-loop μ-loop
 add-if1 c = omega arith
@@ -35,8 +39,8 @@ returns c =
     let a = c .before .before .before .before .args in
     let l = c .before .before .loop in
     let m : a .n - l .k ≡ suc (a .n - l .k - 1) = omega arith in
-    let e : zeros (a .n) (drop (a .at) (bitsOf (a .s .now))) ≡ no pastEnd = sym (l .inv .1) ∙ rw (m, zeros-end (a .s .now) (a .at) (l .k) (a .n - l .k - 1) (omega arith)) in
-    sym (ap numberOf e)
+    let e : read (zeroBits nameless (a .n)) (a .at) (drop (a .at) (bitsOf (a .s .now))) ≡ no (cutOff (a .at + l .k) nameless) = sym (l .inv .1) ∙ rw (m, zeros-end (a .s .now) (a .at) (l .k) (a .n - l .k - 1) (omega arith)) in
+    sym (ap spanOf e)
 
 bit-at-requires : tie.Need-bit-at-requires Inv-loop μ-loop
 bit-at-requires c κs = omega arith
@@ -48,8 +52,10 @@ returns-2 c =
     let m : a .n - l .k ≡ suc (a .n - l .k - 1) = omega arith in
     let b = getD (bitsOf (a .s .now)) (a .at + l .k) false in
     let o : bit b ≡ 1 = omega (arith, bit-lt b) in
-    let e : zeros (a .n) (drop (a .at) (bitsOf (a .s .now))) ≡ no notZero = sym (l .inv .1) ∙ rw (m, zeros-one (a .s .now) (a .at) (l .k) (a .n - l .k - 1) (omega arith) o) in
-    sym (ap numberOf e)
+    let z = zeros-one (a .s .now) (a .at) (l .k) (a .n - l .k - 1) (omega arith) o in
+    let e : read (zeroBits nameless (a .n)) (a .at) (drop (a .at) (bitsOf (a .s .now))) ≡ no (z .0) = sym (l .inv .1) ∙ ap (λ (j : ℕ). widened (l .k) (read (zeroBits nameless j) (a .at + l .k) (drop (a .at + l .k) (bitsOf (a .s .now))))) m ∙ ap (widened (l .k)) (z .1) in
+    let f : Refused (refusal notZero) ≡ spanOf (no (z .0)) = ap (λ (j : ℕ). Refused (refusal j)) (sym (z .2)) in
+    f ∙ sym (ap spanOf e)
 
 add-k : tie.Need-add-k Inv-loop μ-loop
 add-k c = omega arith
@@ -63,16 +69,17 @@ loop-again c =
     let l = c .before .before .before .before .loop in
     let m : a .n - l .k ≡ suc (a .n - (l .k + 1)) = omega arith in
     let z = zeros-zero (a .s .now) (a .at) (l .k) (a .n - (l .k + 1)) (omega arith) (λ e. omega arith) in
-    (omega arith, sym (more-more (l .k) 1 (zeros (a .n - (l .k + 1)) (drop (a .at + (l .k + 1)) (bitsOf (a .s .now))))) ∙ sym (rw (m, z)) ∙ l .inv .1)
+    (omega arith, sym (widened-twice (l .k) 1 (read (zeroBits nameless (a .n - (l .k + 1))) (a .at + (l .k + 1)) (drop (a .at + (l .k + 1)) (bitsOf (a .s .now))))) ∙ sym (rw (m, z)) ∙ l .inv .1)
 
 returns-3 : tie.Need-returns-3 Inv-loop μ-loop
+unfolding read zeroBits
 returns-3 c =
     let a = c .before .before .before .args in
     let l = c .before .loop in
     let k : l .k ≡ a .n = omega arith in
     let z : a .n - l .k ≡ 0 = omega arith in
-    let e : zeros (a .n) (drop (a .at) (bitsOf (a .s .now))) ≡ ok 0 (a .n) = sym (l .inv .1) ∙ rw (z, k) (zeros-done (drop (a .at + a .n) (bitsOf (a .s .now))) (a .n)) in
-    sym (ap numberOf e)
+    let e : read (zeroBits nameless (a .n)) (a .at) (drop (a .at) (bitsOf (a .s .now))) ≡ ok tt (a .n) = sym (l .inv .1) ∙ rw (z, k, add-zero (a .n)) in
+    sym (ap spanOf e)
 
 pub read-zeros-spec : {M : Type 1} → statement M
 read-zeros-spec =

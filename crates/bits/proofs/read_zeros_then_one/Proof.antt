@@ -4,14 +4,15 @@ use mathlib.Core.Path.{_≡_, _∙_, sym, ap}
 use native.Mathlib.Omega.{arith}
 use native.Mathlib.Nat.{add-zero}
 use lib.ListN.{drop}
-use Rattle.bits.specs.Bits.{bitsOf}
-use Rattle.bits.specs.Reading.{numberOf, zerosThenOne}
+use Rattle.tree.specs.Bits.{bitsOf}
+use Rattle.tree.specs.Reading.{zerosThenOne}
+use Rattle.bits.specs.Answer.{nameless, numberOf}
 use Rattle.bits.proofs.Reading.{ones-end, ones-one, ones-zero, ones-gone}
 use Rattle.bits.proofs.read_zeros_then_one.Statement.{statement}
 use Rattle.bits.proofs.read_zeros_then_one.Tie as tie
 
 abbrev Inv-loop : tie.InvT-loop
-Inv-loop s at most k₀ k = (k ≤ most) × (zerosThenOne most k (drop (at + k) (bitsOf s)) ≡ zerosThenOne most 0 (drop at (bitsOf s)))
+Inv-loop s at most k₀ k = (k ≤ most) × (zerosThenOne nameless most at k (drop (at + k) (bitsOf s)) ≡ zerosThenOne nameless most at 0 (drop at (bitsOf s)))
 
 abbrev μ-loop : tie.MeasureT-loop
 μ-loop s at most k₀ k = most - k

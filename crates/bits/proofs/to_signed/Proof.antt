@@ -6,7 +6,8 @@ use native.Mathlib.Omega.{arith}
 use lib.Pow.{pow-mono}
 use mir.ValLaws.{toZ-pos}
 use mir.Syntax.{w32}
-use Rattle.bits.proofs.Signed.{shl-one, signed-low, power-fits, difference-fits, signed-fits, signed-is}
+use Rattle.tree.proofs.Elements.{signed-low}
+use Rattle.bits.proofs.Signed.{shl-one, power-fits, difference-fits, signed-fits, signed-is}
 use Rattle.bits.proofs.to_signed.Statement.{statement}
 use Rattle.bits.proofs.to_signed.Tie as tie
 

@@ -3,10 +3,10 @@ use Prim.Native.Nat.{_+_, _≤_}
 use mathlib.Core.Path.{_≡_, sym, ap}
 use native.Mathlib.Omega.{arith}
 use lib.ListN.{length, drop}
-use Rattle.bits.specs.Bits.{bitsOf, valueFrom}
-use Rattle.bits.specs.Reading.{numberOf}
-use Rattle.bits.proofs.Bits.{length-rest}
-use Rattle.bits.proofs.Reading.{u-ok, u-short}
+use Rattle.tree.specs.Bits.{bitsOf, valueFrom}
+use Rattle.tree.proofs.Bits.{length-rest}
+use Rattle.tree.proofs.Elements.{u-ok, u-short}
+use Rattle.bits.specs.Answer.{nameless, numberOf}
 use borrow.Author.Needs.{needs}
 use Rattle.bits.proofs.u_behind.Statement.{statement}
 use Rattle.bits.proofs.u_behind.Tie as tie
@@ -17,7 +17,7 @@ returns c =
     let a = c .before .before .args in
     let n : a .n ≡ 0 = omega arith in
     let l = drop (a .at + a .skip) (bitsOf (a .s .now)) in
-    rw n (sym (ap numberOf (u-ok 0 l (omega arith))))
+    rw n (sym (ap numberOf (u-ok nameless 0 (a .at) l (omega arith))))
 
 add-if2 : tie.Need-add-if2
 add-if2 c = search needs
@@ -35,7 +35,7 @@ returns-2 : tie.Need-returns-2
 returns-2 c =
     let a = c .before .before .before .args in
     let l = drop (a .at + a .skip) (bitsOf (a .s .now)) in
-    sym (ap numberOf (u-short (a .n) l (omega (arith, length-rest (a .s .now) (a .at + a .skip)))))
+    sym (ap numberOf (u-short nameless (a .n) (a .at) l (omega (arith, length-rest (a .s .now) (a .at + a .skip)))))
 
 gather-requires : tie.Need-gather-requires
 gather-requires c κs = search needs
@@ -45,7 +45,7 @@ returns-3 c =
     let a = c .before .before .before .before .args in
     let l = drop (a .at + a .skip) (bitsOf (a .s .now)) in
     let h : a .n ≤ length l = omega (arith, length-rest (a .s .now) (a .at + a .skip)) in
-    cc (ap numberOf (u-ok (a .n) l h))
+    cc (ap numberOf (u-ok nameless (a .n) (a .at) l h))
 
 pub u-behind-spec : {M : Type 1} → statement M
 u-behind-spec =

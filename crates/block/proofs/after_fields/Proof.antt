@@ -1,12 +1,16 @@
 -- `block::after_fields` meets its contract.
-use mathlib.Core.Path.{_∙_}
+use Prim.Native.Nat.{ℕ}
+use mathlib.Core.Path.{_≡_, _∙_, ap, sym}
 use lib.ListN.{drop}
-use Rattle.bits.specs.Bits.{bitsOf}
-use Rattle.bits.specs.Reading.{zeros}
-use Rattle.bits.proofs.Reading.{is-ok, is-no}
+use Rattle.tree.specs.Bits.{bitsOf}
+use Rattle.tree.specs.Syntax.{done, zeroBits, read}
+use Rattle.bits.specs.declared.Number.the-variants.{Is, Refused}
+use Rattle.bits.specs.Answer.{nameless, spanOf}
+use Rattle.bits.proofs.Reading.{spans-ok, spans-no, named-zeros}
+use Rattle.record.specs.Name.{«ext_dm_alignment_zero_bit»}
 use Rattle.record.specs.Level.{padding}
-use Rattle.syntax.specs.Data.{ordered}
-use Rattle.block.proofs.Laws.{first-no, in-order, out-of-order}
+use Rattle.block.specs.Parts.{afterFields}
+use Rattle.block.proofs.Laws.{first-no, closed, read-closing}
 use borrow.Author.Needs.{needs}
 use Rattle.block.proofs.after_fields.Statement.{statement}
 use Rattle.block.proofs.after_fields.Tie as tie
@@ -26,36 +30,30 @@ enum-known-why c = search needs
 enum-known-width : tie.Need-enum-known-width
 enum-known-width c = search needs
 
-in-order-requires : tie.Need-in-order-requires
-in-order-requires c κs = search needs
-
-refuse-requires : tie.Need-refuse-requires
-refuse-requires c κs = search needs
-
 returns : tie.Need-returns
 returns c =
     let a = c .before .before .before .before .before .before .args in
-    let s = drop (a .at) (bitsOf (a .s .now)) in
+    let B = bitsOf (a .s .now) in
+    let l = drop (a .at) B in
     let r = c .before .why .given .0 .0 in
-    first-no (zeros (padding (a .level)) s) (λ z. ordered (a .block)) s r (is-no (zeros (padding (a .level)) s) r (cc))
+    let z = c .before .before .before in
+    let e : Refused r ≡ spanOf (read (zeroBits nameless (padding (a .level))) (a .at) l) =
+    sym (c .before .why .given .1) ∙ z .read-zeros .ensures ∙ ap (λ (k : ℕ). spanOf (read (zeroBits nameless k) (a .at) l)) (z .before .padding-of .ensures) in
+    let o = read (zeroBits «ext_dm_alignment_zero_bit» (padding (a .level))) (a .at) l in
+    first-no (afterFields (a .level) (a .block)) o (λ z. done (a .block)) (a .at) B (read-closing (a .level) (a .block) (a .at) l) r
+    (spans-no o r (e ∙ named-zeros «ext_dm_alignment_zero_bit» (padding (a .level)) (a .at) l))
 
 returns-2 : tie.Need-returns-2
 returns-2 c =
-    let d = c .before .before .before in
-    let a = d .before .before .before .before .before .args in
-    let s = drop (a .at) (bitsOf (a .s .now)) in
-    let v = d .width .given .0 .0 in
-    let n = d .width .given .0 .1 .0 in
-    in-order (a .level) (a .block) s v n (is-ok (zeros (padding (a .level)) s) v n (cc)) (cc)
-
-returns-3 : tie.Need-returns-3
-returns-3 c =
-    let d = c .before .before .before .before in
-    let a = d .before .before .before .before .before .args in
-    let s = drop (a .at) (bitsOf (a .s .now)) in
-    let v = d .width .given .0 .0 in
-    let n = d .width .given .0 .1 .0 in
-    c .refuse .ensures ∙ out-of-order (a .level) (a .block) s v n (is-ok (zeros (padding (a .level)) s) v n (cc)) (cc)
+    let a = c .before .before .before .before .before .before .args in
+    let B = bitsOf (a .s .now) in
+    let l = drop (a .at) B in
+    let v = c .before .width .given .0 .0 in
+    let n = c .before .width .given .0 .1 .0 in
+    let z = c .before .before .before in
+    let e : Is v n ≡ spanOf (read (zeroBits nameless (padding (a .level))) (a .at) l) =
+    sym (c .before .width .given .1) ∙ z .read-zeros .ensures ∙ ap (λ (k : ℕ). spanOf (read (zeroBits nameless k) (a .at) l)) (z .before .padding-of .ensures) in
+    closed (a .level) (a .block) (a .at) B n (spans-ok (read (zeroBits «ext_dm_alignment_zero_bit» (padding (a .level))) (a .at) l) v n (e ∙ named-zeros «ext_dm_alignment_zero_bit» (padding (a .level)) (a .at) l))
 
 pub after-fields-spec : {M : Type 1} → statement M
 after-fields-spec =
@@ -66,8 +64,5 @@ after-fields-spec =
     read-zeros-requires
     enum-known-why
     enum-known-width
-    in-order-requires
-    refuse-requires
     returns
-    returns-2
-    returns-3)
+    returns-2)

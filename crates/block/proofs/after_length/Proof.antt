@@ -1,13 +1,18 @@
 -- `block::after_length` meets its contract: the level, then the body.
-use Prim.Native.Nat.{_+_, _^_, _<_}
-use mathlib.Core.Path.{_≡_}
+use Prim.Native.Nat.{_+_, _^_, _<_, _≤_}
+use mathlib.Core.Path.{_≡_, _∙_, ap, sym}
 use native.Mathlib.Omega.{arith}
+use lib.IntN.{pos}
 use lib.ListN.{drop}
-use Rattle.bits.specs.Bits.{bitsOf}
-use Rattle.bits.specs.Reading.{ok, u}
-use Rattle.bits.proofs.Reading.{is-ok, is-no, u-took}
-use Rattle.syntax.specs.Data.{body}
-use Rattle.block.proofs.Laws.{step-ok, first-no, second-no, second-is, takes-body}
+use Rattle.tree.specs.Bits.{bitsOf}
+use Rattle.tree.specs.Reading.{ok, u}
+use Rattle.tree.proofs.Elements.{u-took}
+use Rattle.bits.specs.declared.Number.the-variants.{Is, Refused}
+use Rattle.bits.specs.Answer.{nameless, numberOf}
+use Rattle.bits.proofs.Reading.{is-ok, is-no, named-u}
+use Rattle.record.specs.Name.{«ext_block_level»}
+use Rattle.block.specs.Parts.{body, afterLength, stepBehind, stepTook}
+use Rattle.block.proofs.Laws.{contentBits, first-no, took-few, second-on, read-level, takes-body}
 use borrow.Author.Needs.{needs}
 use Rattle.block.proofs.after_length.Statement.{statement}
 use Rattle.block.proofs.after_length.Tie as tie
@@ -22,15 +27,16 @@ enum-known-level : tie.Need-enum-known-level
 enum-known-level c = search needs
 
 -- the level was read, from 8 bits
-first : (c : tie.After-known-told2) → (u 8 (drop (c .before .before .before .before .before .args .at) (bitsOf (c .before .before .before .before .before .args .s .now))) ≡ ok (c .before .level .given .0 .0) (c .before .level .given .0 .1 .0))
+first : (c : tie.After-known-told2) → (u «ext_block_level» 8 (c .before .before .before .before .before .args .at) (drop (c .before .before .before .before .before .args .at) (bitsOf (c .before .before .before .before .before .args .s .now))) ≡ ok (c .before .level .given .0 .0) (c .before .level .given .0 .1 .0))
     × (c .before .level .given .0 .0 < 2 ^ 8) × (c .before .level .given .0 .1 .0 ≡ 8)
 first c =
     let a = c .before .before .before .before .before .args in
     let l = drop (a .at) (bitsOf (a .s .now)) in
     let v = c .before .level .given .0 .0 in
     let n = c .before .level .given .0 .1 .0 in
-    let e = is-ok (u 8 l) v n (cc) in
-    let t = u-took 8 l v n e in
+    let q : Is v n ≡ numberOf (u nameless 8 (a .at) l) = sym (c .before .level .given .1) ∙ c .before .before .before .read-u .ensures in
+    let e = is-ok (u «ext_block_level» 8 (a .at) l) v n (q ∙ named-u «ext_block_level» (a .at) l 8) in
+    let t = u-took «ext_block_level» 8 (a .at) l v n e in
     (e, t .1, t .0)
 
 add-read-body : tie.Need-add-read-body
@@ -42,43 +48,35 @@ cast-read-body c = let f = first c in omega (arith, f .1)
 read-body-requires : tie.Need-read-body-requires
 read-body-requires c κs = let f = first c in omega (arith, f .2)
 
-enum-known-why-2 : tie.Need-enum-known-why-2
-enum-known-why-2 c = search needs
-
-enum-known-block : tie.Need-enum-known-block
-enum-known-block c = search needs
-
-add-t16 : tie.Need-add-t16
-add-t16 c =
-    let d = c .before .before .before .before in
+behind-requires : tie.Need-behind-requires
+behind-requires c κs =
+    let d = c .before in
     let f = first d in
     let a = d .before .before .before .before .before .args in
-    let l = drop (a .at + d .before .level .given .0 .1 .0) (bitsOf (a .s .now)) in
-    let b = c .before .block .given .0 .0 in
-    let m = c .before .block .given .0 .1 .0 in
-    let t = takes-body (a .length) (d .before .level .given .0 .0) l b m (step-ok (body (a .length) (d .before .level .given .0 .0) l) b m (cc)) in
-    omega (arith, f .2, t)
+    let v = d .before .level .given .0 .0 in
+    let n = d .before .level .given .0 .1 .0 in
+    let few : stepTook (c .read-body .result) ≤ contentBits = rw (c .read-body .ensures 0 0) (took-few contentBits (body 0 0 (pos (a .size)) (pos v)) (takes-body 0 0 (pos (a .size)) (pos v)) (a .at + n) (drop (a .at + n) (bitsOf (a .s .now)))) in
+    omega (arith, f .2, few)
 
 returns : tie.Need-returns
-returns c =
+returns c start =
     let a = c .before .before .before .before .before .args in
-    let l = drop (a .at) (bitsOf (a .s .now)) in
+    let B = bitsOf (a .s .now) in
+    let l = drop (a .at) B in
     let r = c .before .why .given .0 .0 in
-    first-no (u 8 l) (body (a .length)) l r (is-no (u 8 l) r (cc))
+    let q : Refused r ≡ numberOf (u nameless 8 (a .at) l) = sym (c .before .why .given .1) ∙ c .before .before .before .read-u .ensures in
+    let o = u «ext_block_level» 8 (a .at) l in
+    first-no (afterLength start (pos (a .size))) o (λ v. body start (a .at) (pos (a .size)) (pos v)) (a .at) B (read-level start (pos (a .size)) (a .at) l) r (is-no o r (q ∙ named-u «ext_block_level» (a .at) l 8))
 
 returns-2 : tie.Need-returns-2
-returns-2 c =
-    let d = c .before .before .before .before in
+returns-2 c start =
+    let d = c .before .before in
     let a = d .before .before .before .before .before .args in
     let B = bitsOf (a .s .now) in
-    second-no (a .at) B (u 8 (drop (a .at) B)) (body (a .length)) (d .before .level .given .0 .0) (d .before .level .given .0 .1 .0) (first d .0) (c .before .why2 .given .0 .0) (cc)
-
-returns-3 : tie.Need-returns-3
-returns-3 c =
-    let d = c .before .before .before .before in
-    let a = d .before .before .before .before .before .args in
-    let B = bitsOf (a .s .now) in
-    second-is (a .at) B (u 8 (drop (a .at) B)) (body (a .length)) (d .before .level .given .0 .0) (d .before .level .given .0 .1 .0) (first d .0) (c .before .block .given .0 .0) (c .before .block .given .0 .1 .0) (cc)
+    let l = drop (a .at) B in
+    c .behind .ensures ∙ ap (stepBehind (d .before .level .given .0 .1 .0)) (c .before .read-body .ensures start (a .at))
+    ∙ second-on (afterLength start (pos (a .size))) (u «ext_block_level» 8 (a .at) l) (λ v. body start (a .at) (pos (a .size)) (pos v)) (a .at) B (read-level start (pos (a .size)) (a .at) l)
+    (d .before .level .given .0 .0) (d .before .level .given .0 .1 .0) (first d .0)
 
 pub after-length-spec : {M : Type 1} → statement M
 after-length-spec =
@@ -90,9 +88,6 @@ after-length-spec =
     add-read-body
     cast-read-body
     read-body-requires
-    enum-known-why-2
-    enum-known-block
-    add-t16
+    behind-requires
     returns
-    returns-2
-    returns-3)
+    returns-2)

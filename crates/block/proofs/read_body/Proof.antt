@@ -1,7 +1,7 @@
 -- `block::read_body` meets its contract: the level is checked, then the length.
-use mathlib.Core.Path.{_∙_}
+use mathlib.Core.Path.{_∙_, sym}
 use lib.ListN.{drop}
-use Rattle.bits.specs.Bits.{bitsOf}
+use Rattle.tree.specs.Bits.{bitsOf}
 use Rattle.block.proofs.Laws.{body-unknown, body-length, body-is}
 use borrow.Author.Needs.{needs}
 use Rattle.block.proofs.read_body.Statement.{statement}
@@ -26,19 +26,24 @@ refuse-requires-2 : tie.Need-refuse-requires-2
 refuse-requires-2 c κs = search needs
 
 returns : tie.Need-returns
-returns c =
-    let a = c .before .before .before .before .before .before .args in
-    c .read-content .ensures ∙ body-is (a .length) (a .level) (drop (a .at) (bitsOf (a .s .now))) (cc) (cc)
+returns c start there =
+    let b = c .before .before .before in
+    let a = b .before .before .before .args in
+    c .read-content .ensures
+    ∙ body-is start there (a .size) (a .level) (a .at) (drop (a .at) (bitsOf (a .s .now))) (sym (b .before .is-known .ensures) ∙ c .before .before .if1 .taken) (c .before .if2 .taken ∙ b .bytes-of .ensures)
 
 returns-2 : tie.Need-returns-2
-returns-2 c =
-    let a = c .before .before .before .before .before .before .args in
-    c .refuse .ensures ∙ body-length (a .length) (a .level) (drop (a .at) (bitsOf (a .s .now))) (cc) (λ e. c .before .if2 .left (cc))
+returns-2 c start there =
+    let b = c .before .before .before in
+    let a = b .before .before .before .args in
+    c .refuse .ensures
+    ∙ body-length start there (a .size) (a .level) (a .at) (drop (a .at) (bitsOf (a .s .now))) (sym (b .before .is-known .ensures) ∙ c .before .before .if1 .taken) (λ e. c .before .if2 .left (e ∙ sym (b .bytes-of .ensures)))
 
 returns-3 : tie.Need-returns-3
-returns-3 c =
-    let a = c .before .before .before .before .before .args in
-    c .refuse2 .ensures ∙ body-unknown (a .length) (a .level) (drop (a .at) (bitsOf (a .s .now))) (cc)
+returns-3 c start there =
+    let b = c .before .before in
+    let a = b .before .before .before .args in
+    c .refuse2 .ensures ∙ body-unknown start there (a .size) (a .level) (a .at) (drop (a .at) (bitsOf (a .s .now))) (sym (b .before .is-known .ensures) ∙ c .before .if1 .left)
 
 pub read-body-spec : {M : Type 1} → statement M
 read-body-spec =

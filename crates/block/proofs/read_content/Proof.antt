@@ -1,16 +1,18 @@
 -- `block::read_content` meets its contract: the fields, then what follows them.
 use Prim.Native.Nat.{_+_, _≤_}
-use mathlib.Core.Path.{_≡_, _∙_, ap}
+use mathlib.Core.Path.{_≡_, _∙_, ap, sym}
 use native.Mathlib.Omega.{arith}
 use lib.ListN.{drop}
-use Rattle.bits.specs.Bits.{bitsOf}
-use Rattle.bits.specs.Reading.{Out, ok, mapped}
-use Rattle.bits.specs.Coding.{fields}
+use Rattle.tree.specs.Bits.{bitsOf}
+use Rattle.tree.specs.Reading.{Out, ok, mapped}
+use Rattle.tree.specs.Syntax.{row, read}
 use Rattle.record.specs.declared.Block.{Block}
-use Rattle.record.specs.Level.{codings}
-use Rattle.syntax.specs.Data.{blockOf}
-use Rattle.block.specs.Step.{stepOf, afterFields}
-use Rattle.block.proofs.Laws.{step-ok, step-no, first-no, second-no, second-is, content-is, takes-level, takes-after-fields}
+use Rattle.record.specs.Name.{Name}
+use Rattle.record.specs.Level.{fieldsOf}
+use Rattle.syntax.specs.Data.{blockOf, content}
+use Rattle.fields.proofs.Laws.{step-ok, step-no}
+use Rattle.block.specs.Parts.{afterFields, stepBehind, stepTook}
+use Rattle.block.proofs.Laws.{contentBits, first-no, second-on, read-fields, few-fields, few-zeros}
 use borrow.Author.Needs.{needs}
 use Rattle.block.proofs.read_content.Statement.{statement}
 use Rattle.block.proofs.read_content.Tie as tie
@@ -25,17 +27,17 @@ enum-known-b : tie.Need-enum-known-b
 enum-known-b c = search needs
 
 -- what the fields of the level read as, and what came of it
-fieldsRead : (c : tie.Start) → Out Block
-fieldsRead c = mapped (blockOf (c .args .level)) (fields (codings (c .args .level)) (drop (c .args .at) (bitsOf (c .args .s .now))))
+fieldsRead : (c : tie.Start) → Out Name Block
+fieldsRead c = mapped (blockOf (c .args .level)) (read (row (fieldsOf (c .args .level))) (c .args .at) (drop (c .args .at) (bitsOf (c .args .s .now))))
 
-first : (c : tie.After-known-told2) → (fieldsRead (c .before .before .before .before .before) ≡ ok (c .before .b .given .0 .0) (c .before .b .given .0 .1 .0)) × (c .before .b .given .0 .1 .0 ≤ 85)
+first : (c : tie.After-known-told2) → (fieldsRead (c .before .before .before .before .before) ≡ ok (c .before .b .given .0 .0) (c .before .b .given .0 .1 .0)) × (c .before .b .given .0 .1 .0 ≤ contentBits)
 unfolding fieldsRead
 first c =
     let s = c .before .before .before .before .before in
     let b = c .before .b .given .0 .0 in
     let n = c .before .b .given .0 .1 .0 in
-    let e = step-ok (fieldsRead s) b n (cc) in
-    (e, takes-level (s .args .level) (drop (s .args .at) (bitsOf (s .args .s .now))) b n e .0)
+    let e = step-ok (fieldsRead s) b n (sym (c .before .b .given .1) ∙ c .before .before .before .fields-of .ensures) in
+    (e, few-fields (s .args .level) (s .args .at) (drop (s .args .at) (bitsOf (s .args .s .now))) b n e)
 
 add-after-fields : tie.Need-add-after-fields
 add-after-fields c = let f = first c in omega (arith, f .1)
@@ -43,48 +45,33 @@ add-after-fields c = let f = first c in omega (arith, f .1)
 after-fields-requires : tie.Need-after-fields-requires
 after-fields-requires c κs = search needs
 
-enum-known-why-2 : tie.Need-enum-known-why-2
-enum-known-why-2 c = search needs
-
-enum-known-block : tie.Need-enum-known-block
-enum-known-block c = search needs
-
-add-t15 : tie.Need-add-t15
-add-t15 c =
-    let d = c .before .before .before .before in
+behind-requires : tie.Need-behind-requires
+behind-requires c κs =
+    let d = c .before in
     let f = first d in
     let a = d .before .before .before .before .before .args in
-    let l = drop (a .at + d .before .b .given .0 .1 .0) (bitsOf (a .s .now)) in
-    let b = c .before .block .given .0 .0 in
-    let m = c .before .block .given .0 .1 .0 in
-    let t = takes-after-fields (a .level) (d .before .b .given .0 .0) l b m (step-ok (afterFields (a .level) (d .before .b .given .0 .0) l) b m (cc)) in
-    omega (arith, f .1, t)
+    let n = d .before .b .given .0 .1 .0 in
+    let few : stepTook (c .after-fields .result) ≤ contentBits = rw (c .after-fields .ensures) (few-zeros (a .level) (d .before .b .given .0 .0) (a .at + n) (drop (a .at + n) (bitsOf (a .s .now)))) in
+    omega (arith, f .1, few)
 
 returns : tie.Need-returns
 unfolding fieldsRead
 returns c =
     let s = c .before .before .before .before .before in
-    let l = drop (s .args .at) (bitsOf (s .args .s .now)) in
+    let B = bitsOf (s .args .s .now) in
+    let l = drop (s .args .at) B in
     let r = c .before .why .given .0 .0 in
-    first-no (fieldsRead s) (afterFields (s .args .level)) l r (step-no (fieldsRead s) r (cc)) ∙ ap stepOf (content-is (s .args .level) l)
+    first-no (content (s .args .level)) (fieldsRead s) (afterFields (s .args .level)) (s .args .at) B (read-fields (s .args .level) (s .args .at) l) r (step-no (fieldsRead s) r (sym (c .before .why .given .1) ∙ c .before .before .before .fields-of .ensures))
 
 returns-2 : tie.Need-returns-2
 unfolding fieldsRead
 returns-2 c =
-    let d = c .before .before .before .before in
+    let d = c .before .before in
     let s = d .before .before .before .before .before in
-    let B = bitsOf (s .args .s .now) in
-    second-no (s .args .at) B (fieldsRead s) (afterFields (s .args .level)) (d .before .b .given .0 .0) (d .before .b .given .0 .1 .0) (first d .0) (c .before .why2 .given .0 .0) (cc)
-    ∙ ap stepOf (content-is (s .args .level) (drop (s .args .at) B))
-
-returns-3 : tie.Need-returns-3
-unfolding fieldsRead
-returns-3 c =
-    let d = c .before .before .before .before in
-    let s = d .before .before .before .before .before in
-    let B = bitsOf (s .args .s .now) in
-    second-is (s .args .at) B (fieldsRead s) (afterFields (s .args .level)) (d .before .b .given .0 .0) (d .before .b .given .0 .1 .0) (first d .0) (c .before .block .given .0 .0) (c .before .block .given .0 .1 .0) (cc)
-    ∙ ap stepOf (content-is (s .args .level) (drop (s .args .at) B))
+    let a = s .args in
+    let B = bitsOf (a .s .now) in
+    c .behind .ensures ∙ ap (stepBehind (d .before .b .given .0 .1 .0)) (c .before .after-fields .ensures)
+    ∙ second-on (content (a .level)) (fieldsRead s) (afterFields (a .level)) (a .at) B (read-fields (a .level) (a .at) (drop (a .at) B)) (d .before .b .given .0 .0) (d .before .b .given .0 .1 .0) (first d .0)
 
 pub read-content-spec : {M : Type 1} → statement M
 read-content-spec =
@@ -95,9 +82,6 @@ read-content-spec =
     enum-known-b
     add-after-fields
     after-fields-requires
-    enum-known-why-2
-    enum-known-block
-    add-t15
+    behind-requires
     returns
-    returns-2
-    returns-3)
+    returns-2)

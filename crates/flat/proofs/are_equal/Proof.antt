@@ -10,13 +10,13 @@ use lib.ListN.{length, take, getD}
 use lib.Seq.{take-suc, take-all, length-take-le}
 use mir.Syntax.{w32}
 use mir.Val.{ofZ}
-use Rattle.flat.specs.Flat.{same}
+use Rattle.flat.specs.Flat.{sameRow}
 use Rattle.flat.proofs.Rows.{same-bits, same-snoc}
 use Rattle.flat.proofs.are_equal.Statement.{statement}
 use Rattle.flat.proofs.are_equal.Tie as tie
 
 abbrev Inv-loop : tie.InvT-loop
-Inv-loop a b equal₀ k₀ equal k = (k ≤ 8) × (equal ≡ same (take k a) (take k b))
+Inv-loop a b equal₀ k₀ equal k = (k ≤ 8) × (equal ≡ sameRow (take k a) (take k b))
 
 abbrev μ-loop : tie.MeasureT-loop
 μ-loop a b equal₀ k₀ equal k = 8 - k
@@ -25,7 +25,7 @@ long : (c : tie.Start Inv-loop μ-loop) → (length (c .args .t1) ≡ 8) × (len
 long c = (c .good .0 .1 .0 .1, c .good .1 .0 .1 .0 .1)
 
 loop-holds : tie.Need-loop-holds Inv-loop μ-loop
-unfolding same
+unfolding sameRow
 loop-holds c = (omega arith, refl)
 
 mul-x : tie.Need-mul-x Inv-loop μ-loop
@@ -57,7 +57,7 @@ loop-again c =
     let y = getD b (l .k) (pos 0) in (
       omega arith,
       ap (λ (t : Bool). t && eqb (ofZ w32 x) (ofZ w32 y)) (l .inv .1)
-          ∙ ap (λ (t : Bool). same (take (l .k) a) (take (l .k) b) && t) (same-bits x y (record { sfits = c .before .x .given }) (record { sfits = c .y .given }))
+          ∙ ap (λ (t : Bool). sameRow (take (l .k) a) (take (l .k) b) && t) (same-bits x y (record { sfits = c .before .x .given }) (record { sfits = c .y .given }))
           ∙ sym (rw (add-one (l .k), take-suc a (l .k) (pos 0) (omega arith), take-suc b (l .k) (pos 0) (omega arith))
           (same-snoc (take (l .k) a) (take (l .k) b) x y (length-take-le (l .k) a (omega arith) ∙ sym (length-take-le (l .k) b (omega arith))))),
     )

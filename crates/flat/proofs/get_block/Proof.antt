@@ -3,7 +3,7 @@ use mathlib.Core.Path.{_≡_, sym, ap, _∙_}
 use mathlib.Core.Bool.{Bool, cond}
 use lib.ListN.{take, drop}
 use Rattle.record.specs.declared.Block.the-variants.{Nothing}
-use Rattle.flat.specs.Flat.{placeLength, blockOf, namesBlock, blockNamed}
+use Rattle.flat.specs.Flat.{placeLength, blockSaid, namesBlock, blockNamed}
 use borrow.Author.Needs.{needs}
 use Rattle.flat.proofs.get_block.Statement.{statement}
 use Rattle.flat.proofs.get_block.Tie as tie
@@ -30,14 +30,14 @@ unfolding blockNamed
 returns c =
     let d = c .before in
     let l = take placeLength (drop (d .before .before .before .before .args .at) (d .before .before .before .before .args .row .now)) in
-    d .before .before .block-of .ensures ∙ ap blockOf (d .before .before .before .eight-at .ensures) ∙ sym (ap (λ (t : Bool). cond t (blockOf l) Nothing) (sym (named d) ∙ c .if1 .taken))
+    d .before .before .block-of .ensures ∙ ap blockSaid (d .before .before .before .eight-at .ensures) ∙ sym (ap (λ (t : Bool). cond t (blockSaid l) Nothing) (sym (named d) ∙ c .if1 .taken))
 
 returns-2 : tie.Need-returns-2
 unfolding blockNamed
 returns-2 c =
     let d = c .before in
     let l = take placeLength (drop (d .before .before .before .before .args .at) (d .before .before .before .before .args .row .now)) in
-    sym (ap (λ (t : Bool). cond t (blockOf l) Nothing) (sym (named d) ∙ c .if1 .left))
+    sym (ap (λ (t : Bool). cond t (blockSaid l) Nothing) (sym (named d) ∙ c .if1 .left))
 
 pub get-block-spec : {M : Type 1} → statement M
 get-block-spec =

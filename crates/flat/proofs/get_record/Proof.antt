@@ -9,7 +9,7 @@ use lib.Seq.{length-take-le}
 use mir.Syntax.{w32}
 use mir.Val.{SFits}
 use mir.ValLaws.{toZ-ofZ}
-use Rattle.flat.specs.Flat.{flatLength, numberAt, each, always, blockOf, placeNumbers, namesHead, namesBlock, unsignedIn}
+use Rattle.flat.specs.Flat.{flatLength, numberAt, each, always, blockSaid, placeNumbers, namesHead, namesBlock, unsignedIn}
 use Rattle.flat.proofs.Places.{readTo, namedTo, part-of, number-in, flag-is, head-is, read-more, named-more, read-named, not-named}
 use Rattle.flat.proofs.get_record.Statement.{statement}
 use Rattle.flat.proofs.get_record.Tie as tie
@@ -114,7 +114,7 @@ loop-again c =
     let n : at + (2 + 8 * v .i) ≡ at + 2 + 8 * v .i = omega arith in
     let eight : c .before .before .before .eight-at .result ≡ placeNumbers l (v .i) =
     c .before .before .before .eight-at .ensures ∙ ap (λ (k : ℕ). take 8 (drop k row)) (sym n) ∙ sym (part-of at flatLength (2 + 8 * v .i) 8 row (omega arith)) in
-    let block : c .before .before .block-of .result ≡ blockOf (placeNumbers l (v .i)) = c .before .before .block-of .ensures ∙ ap blockOf eight in
+    let block : c .before .before .block-of .result ≡ blockSaid (placeNumbers l (v .i)) = c .before .before .block-of .ensures ∙ ap blockSaid eight in
     let named : c .are-equal .result ≡ namesBlock (placeNumbers l (v .i)) =
     c .are-equal .ensures ∙ rw (eight, c .before .eight-of .ensures, block) in (
       omega arith,

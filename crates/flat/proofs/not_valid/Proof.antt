@@ -1,6 +1,6 @@
 -- `flat::not_valid` meets its contract.
 use borrow.Author.Needs.{needs}
-use Rattle.flat.specs.Flat.{notValid}
+use Rattle.flat.specs.Flat.{unnamedRecord}
 use Rattle.flat.proofs.not_valid.Statement.{statement}
 use Rattle.flat.proofs.not_valid.Tie as tie
 
@@ -8,7 +8,7 @@ empty-requires : tie.Need-empty-requires
 empty-requires c κs = search needs
 
 returns : tie.Need-returns
-unfolding notValid
+unfolding unnamedRecord
 returns c = rw (c .empty .ensures)
 
 pub not-valid-spec : {M : Type 1} → statement M

@@ -7,7 +7,7 @@ use borrow.Author.Needs.{needs}
 use lib.IntN.{ℤ}
 use lib.ListN.{length, take, drop, getD, length-map}
 use lib.Seq.{paste, paste-zero, take-all}
-use Rattle.record.specs.Valid.{blockIn, nowhere}
+use Rattle.record.specs.Blocks.{blockIn, emptyPlace}
 use Rattle.flat.specs.Flat.{flatBlock, flatPlaces}
 use Rattle.flat.proofs.Rows.{paste-more}
 use Rattle.flat.proofs.Places.{length-eight, length-places, places-at}
@@ -61,7 +61,7 @@ loop-again c =
     let l = c .before .before .before .before .before .before .loop in
     let d = s .args .row .now in
     let ps = s .args .t3 .places in
-    let b = blockIn (getD ps (l .i) nowhere) in
+    let b = blockIn (getD ps (l .i) emptyPlace) in
     let n = long s in
     let k : 8 * l .i + 8 ≡ 8 * (l .i + 1) = omega arith in
     let e : take 8 (c .before .before .eight-of .result) ≡ take 8 (drop (8 * l .i) (flatPlaces ps)) =

@@ -3,12 +3,12 @@ use borrow.Author.Needs.{needs}
 use Prim.Native.Nat.{ℕ}
 use mathlib.Core.Path.{sym, subst}
 use mathlib.Core.List.{List}
-use Rattle.record.specs.Valid.{blocks}
-use Rattle.listing.specs.Text.{text}
+use Rattle.text.specs.Text.{text}
+use Rattle.text.specs.Typing.{Typed}
+use Rattle.text.proofs.Typing.{typed-then, room-left, room-first}
+use Rattle.text.proofs.Lines.{text-append}
+use Rattle.record.specs.Blocks.{blocks}
 use Rattle.listing.specs.Listing.{headLines, blocksLines}
-use Rattle.listing.specs.Typing.{Typed}
-use Rattle.listing.proofs.Typing.{typed-then, room-left, room-first}
-use Rattle.listing.proofs.Lines.{text-append}
 use Rattle.listing.proofs.put_accepted.Statement.{statement}
 use Rattle.listing.proofs.put_accepted.Tie as tie
 

@@ -1,10 +1,10 @@
 -- `listing::put_block` meets its contract: the level, then the fields.
 use borrow.Author.Needs.{needs}
 use lib.IntN.{pos}
+use Rattle.text.specs.Text.{ascii, line}
+use Rattle.text.proofs.Lines.{room-one, after-one, typed-one}
 use Rattle.record.specs.Level.{level, levelOf, valuesOf}
-use Rattle.listing.specs.Text.{ascii}
-use Rattle.listing.specs.Listing.{line, fieldLines}
-use Rattle.listing.proofs.Lines.{room-one, after-one, typed-one}
+use Rattle.listing.specs.Listing.{fieldLines}
 use Rattle.listing.proofs.put_block.Statement.{statement}
 use Rattle.listing.proofs.put_block.Tie as tie
 

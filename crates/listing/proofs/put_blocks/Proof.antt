@@ -3,11 +3,11 @@ use Prim.Native.Nat.{_-_, _≤_}
 use mathlib.Core.Path.{_≡_, sym, _∙_}
 use native.Mathlib.Omega.{arith}
 use lib.ListN.{length, length-map}
-use Rattle.record.specs.Valid.{mostBlocks}
+use Rattle.text.specs.Typing.{Typed}
+use Rattle.text.proofs.Typing.{typed-then}
+use Rattle.text.proofs.Lines.{typed-none}
+use Rattle.record.specs.Blocks.{mostBlocks}
 use Rattle.listing.specs.Listing.{blocksLines}
-use Rattle.listing.specs.Typing.{Typed}
-use Rattle.listing.proofs.Typing.{typed-then}
-use Rattle.listing.proofs.Lines.{typed-none}
 use Rattle.listing.proofs.Blocks.{before, text-more, room-next}
 use Rattle.listing.proofs.put_blocks.Statement.{statement}
 use Rattle.listing.proofs.put_blocks.Tie as tie

@@ -3,9 +3,9 @@ use borrow.Author.Needs.{needs}
 use mathlib.Core.Path.{_≡_}
 use mir.Syntax.{w16}
 use mir.Val.{toZ, ofZ}
+use Rattle.text.proofs.Lines.{typed-none}
 use Rattle.record.specs.declared.Block.the-variants.{Nothing}
 use Rattle.listing.specs.Listing.{fieldLines}
-use Rattle.listing.proofs.Lines.{typed-none}
 use Rattle.listing.proofs.put_fields.Statement.{statement}
 use Rattle.listing.proofs.put_fields.Tie as tie
 

@@ -2,10 +2,9 @@
 use borrow.Author.Needs.{needs}
 use mathlib.Core.List.{[], _∷_}
 use lib.IntN.{pos}
-use Rattle.bits.specs.Bits.{bit}
-use Rattle.listing.specs.Text.{ascii}
-use Rattle.listing.specs.Listing.{line}
-use Rattle.listing.proofs.Lines.{room-two, after-two, typed-two, typed-none}
+use Rattle.tree.specs.Bits.{bit}
+use Rattle.text.specs.Text.{ascii, line}
+use Rattle.text.proofs.Lines.{room-two, after-two, typed-two, typed-none}
 use Rattle.listing.proofs.put_head.Statement.{statement}
 use Rattle.listing.proofs.put_head.Tie as tie
 

@@ -3,8 +3,8 @@ use Prim.Native.Nat.{ℕ}
 use mathlib.Core.Path.{sym, subst}
 use mathlib.Core.List.{List}
 use borrow.Author.Needs.{needs}
-use Rattle.listing.specs.Text.{ascii}
-use Rattle.listing.specs.Typing.{Room, Typed}
+use Rattle.text.specs.Text.{ascii}
+use Rattle.text.specs.Typing.{RoomForText, Typed}
 use Rattle.listing.proofs.Cases.{accepted-text, refused-text, accepted-few}
 use Rattle.listing.proofs.put_listing.Statement.{statement}
 use Rattle.listing.proofs.put_listing.Tie as tie
@@ -13,7 +13,7 @@ put-accepted-requires : tie.Need-put-accepted-requires
 put-accepted-requires c κs =
     let s = c .before .before .before .before in
     let q = s .args .q in
-    (subst (λ (t : List ℕ). Room (s .args .out .now) 0 t) (accepted-text q (c .before .if1 .taken)) (s .pre .0), accepted-few q (c .before .if1 .taken) (s .pre .1))
+    (subst (λ (t : List ℕ). RoomForText (s .args .out .now) 0 t) (accepted-text q (c .before .if1 .taken)) (s .pre .0), accepted-few q (c .before .if1 .taken) (s .pre .1))
 
 slice-aggregate-put-line : tie.Need-slice-aggregate-put-line
 slice-aggregate-put-line c = search needs
@@ -25,7 +25,7 @@ put-line-requires : tie.Need-put-line-requires
 unfolding ascii
 put-line-requires c κs =
     let s = c .before .before .before .before .before .before in
-    subst (λ (t : List ℕ). Room (s .args .out .now) 0 t) (refused-text (s .args .q) (c .before .before .before .if1 .left)) (s .pre .0)
+    subst (λ (t : List ℕ). RoomForText (s .args .out .now) 0 t) (refused-text (s .args .q) (c .before .before .before .if1 .left)) (s .pre .0)
 
 same-length : tie.Need-same-length
 same-length c = search needs

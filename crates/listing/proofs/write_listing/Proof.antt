@@ -5,10 +5,12 @@ use mathlib.Core.Bool.{true}
 use native.Mathlib.Omega.{arith}
 use borrow.Author.Needs.{needs}
 use lib.ListN.{length}
-use Rattle.writer.proofs.Answers.{done, short, bad}
+use lib.Seq.{take-length}
+use Rattle.output.proofs.Output.{done, short, bad}
+use Rattle.text.proofs.Typing.{typed-whole}
 use Rattle.listing.specs.Listing.{listing, listable}
-use Rattle.listing.proofs.Typing.{typed-whole}
-use Rattle.listing.proofs.Longest.{most-bytes}
+use Rattle.listing.specs.Longest.{longest}
+use Rattle.listing.proofs.Longest.{no-listing-is-longer, longest-bytes}
 use Rattle.listing.proofs.write_listing.Statement.{statement}
 use Rattle.listing.proofs.write_listing.Tie as tie
 
@@ -21,12 +23,12 @@ slice-aggregate-put-listing c = search needs
 judged : (c : tie.Then1) → listable (c .before .before .before .args .q) ≡ true
 judged c = sym (c .before .is-listable .ensures) ∙ c .if1 .taken
 
+-- the page has room for the listing
+roomy : (c : tie.Then1) → length (listing (c .before .before .before .args .q)) ≤ length (listing longest)
+roomy c = no-listing-is-longer (c .before .before .before .args .q) (omega arith) (omega arith) (judged c)
+
 put-listing-requires : tie.Need-put-listing-requires
-put-listing-requires c κs =
-    let s = c .before .before .before .before in
-    let q = s .args .q in
-    let most : length (listing q) ≤ 1586 = most-bytes q (omega arith) (omega arith) (judged (c .before)) in
-    (omega (arith, most), judged (c .before))
+put-listing-requires c κs = (omega (arith, roomy (c .before), longest-bytes), judged (c .before))
 
 returns : tie.Need-returns
 returns c =
@@ -37,18 +39,17 @@ returns c =
 
 array-share-prefix-page : tie.Need-array-share-prefix-page
 array-share-prefix-page c =
-    let put = c .before .before .before .put-listing in
-    let page : length (put .last .0) ≡ 1586 = put .ensures .same in
-    let most : length (listing (c .before .before .before .before .before .before .before .before .args .q)) ≤ 1586 = most-bytes (c .before .before .before .before .before .before .before .before .args .q) (omega arith) (omega arith) (judged (c .before .before .before .before .before)) in
-    omega (arith, typed-whole (put .ensures) .1, page, most)
+    let put = c .before .before .put-listing in
+    let page : length (put .last .0) ≡ length (listing longest) = put .ensures .same ∙ sym longest-bytes in
+    omega (arith, typed-whole (put .ensures) .1, page, roomy (c .before .before .before .before))
 
-slice-aggregate-put-text : tie.Need-slice-aggregate-put-text
-slice-aggregate-put-text c =
-    let put = typed-whole (c .before .before .before .before .put-listing .ensures) in
+slice-aggregate-copy : tie.Need-slice-aggregate-copy
+slice-aggregate-copy c =
+    let put = typed-whole (c .before .before .before .put-listing .ensures) in
     rw (put .0) (put .1)
 
-put-text-requires : tie.Need-put-text-requires
-put-text-requires c κs =
+copy-requires : tie.Need-copy-requires
+copy-requires c κs =
     let put = typed-whole (c .before .before .before .before .put-listing .ensures) in
     rw (put .0) (omega (arith, put .1))
 
@@ -60,9 +61,9 @@ returns-2 c =
     let s = c .before .before .before .before .before .before .before .before .before .before .before .before in
     let q = s .args .q in
     let put = typed-whole (c .before .before .before .before .before .before .before .put-listing .ensures) in
-    let copy = rw (put .0) at (c .before .before .put-text .ensures) in
+    let copied = rw (put .0, take-length (listing q)) at (c .before .before .copy .ensures .1) in
     let d = done (listing q) (listable q) (s .args .out .now) (judged (c .before .before .before .before .before .before .before .before .before)) (omega (arith, put .1)) in
-    (rw (put .1) (d .0), typed-whole copy .2 ∙ d .1)
+    (rw (put .1) (d .0), copied ∙ d .1)
 
 returns-3 : tie.Need-returns-3
 returns-3 c =
@@ -78,8 +79,8 @@ write-listing-spec =
     put-listing-requires
     returns
     array-share-prefix-page
-    slice-aggregate-put-text
-    put-text-requires
+    slice-aggregate-copy
+    copy-requires
     same-length
     returns-2
     returns-3)

@@ -3,7 +3,7 @@ use borrow.Author.Needs.{needs}
 use mathlib.Core.Path.{_≡_, _∙_, ap}
 use mir.ValLaws.{toZ-ofZ}
 use mir.Syntax.{w32}
-use Rattle.bits.specs.Coding.{complement}
+use Rattle.tree.specs.Coding.{complement}
 use Rattle.pen.proofs.put_i.Statement.{statement}
 use Rattle.pen.proofs.put_i.Tie as tie
 

@@ -1,7 +1,7 @@
 -- `pen::put_u` meets its contract: k bits are written, which are v without its last n - k bits.
 use Prim.Native.Nat.{_≤_, _-_, _/_, _^_}
 use native.Mathlib.Omega.{arith}
-use Rattle.bits.specs.Bits.{code}
+use Rattle.tree.specs.Bits.{code}
 use Rattle.pen.specs.Writing.{Wrote}
 use Rattle.pen.proofs.Writing.{wrote-none, next-bit, next-room, all-bits}
 use Rattle.pen.proofs.put_u.Statement.{statement}

@@ -4,7 +4,7 @@ use Prim.Native.Nat.{_+_}
 use mathlib.Core.Bool.{false}
 use native.Mathlib.Omega.{arith}
 use lib.ListN.{length-replicate}
-use Rattle.bits.proofs.Elements.{length-ue, zeros-few}
+use Rattle.tree.proofs.Elements.{length-ue, zeros-few}
 use Rattle.pen.proofs.Writing.{wrote-then, room-left, ue-whole}
 use Rattle.pen.proofs.put_ue.Statement.{statement}
 use Rattle.pen.proofs.put_ue.Tie as tie

@@ -1,6 +1,6 @@
 -- `pen::put_zeros` meets its contract: zero bits are the code of 0.
 use borrow.Author.Needs.{needs}
-use Rattle.bits.proofs.Bits.{code-zero}
+use Rattle.tree.proofs.Bits.{code-zero}
 use Rattle.pen.proofs.put_zeros.Statement.{statement}
 use Rattle.pen.proofs.put_zeros.Tie as tie
 

@@ -1,7 +1,7 @@
 -- `pimlasut::give_reading` meets its contract.
 use mathlib.Core.Path.{_≡_, refl, sym, _∙_}
 use lib.ListN.{length, length-map}
-use Rattle.record.specs.Valid.{mostBlocks}
+use Rattle.record.specs.Blocks.{mostBlocks}
 use Rattle.flat.specs.Flat.{flat, flatLength}
 use Rattle.flat.proofs.Named.{length-flat}
 use Rattle.pimlasut.proofs.Laws.{kept, pasted-whole}

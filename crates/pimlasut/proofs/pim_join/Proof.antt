@@ -12,10 +12,10 @@ use Rattle.plan.specs.declared.Layout.{Layout}
 use Rattle.plan.specs.Limit.{mostPoints}
 use Rattle.plan.specs.Planning.{RisingTags, firstTags, secondTags, planOf}
 use Rattle.track.specs.declared.Joined.{Joined}
-use Rattle.track.specs.Working.{scanOf, chosenOf, answerOf}
+use Rattle.track.specs.Inner.{scanOf, chosenOf, answerOf}
 use Rattle.track.proofs.Together.{rising-seen}
 use Rattle.tables.specs.Table.{flatTable, tableLength, tableIn}
-use Rattle.pimlasut.specs.Boundary.{unless, isTable, joining, joinedTable}
+use Rattle.pimlasut.specs.Boundary.{ifSized, isTable, joining, joinedTable}
 use Rattle.pimlasut.proofs.Laws.{wrong, right, kept, one-of-three-wrong, none-of-three-wrong, few-points, planned, planned-answer, planned-table}
 use borrow.Author.Needs.{needs}
 use Rattle.pimlasut.proofs.pim_join.Statement.{statement}
@@ -37,7 +37,7 @@ planned-is c =
 
 answered : (c : tie.After-decide)
     → let a = c .before .before .before .before .args in
-    (c .decide .result .result ≡ unless (isTable (a .first .now) && isTable (a .second .now) && isTable (a .table .now)) (joining (a .first .now) (a .first-count) (a .second .now) (a .second-count) .result)) × (c .decide .result .count ≡ joining (a .first .now) (a .first-count) (a .second .now) (a .second-count) .count)
+    (c .decide .result .result ≡ ifSized (isTable (a .first .now) && isTable (a .second .now) && isTable (a .table .now)) (joining (a .first .now) (a .first-count) (a .second .now) (a .second-count) .result)) × (c .decide .result .count ≡ joining (a .first .now) (a .first-count) (a .second .now) (a .second-count) .count)
 answered c =
     let a = c .before .before .before .before .args in
     let e = ap answerOf (planned-is c) ∙ planned-answer (a .first .now) (a .first-count) (a .second .now) (a .second-count) in

@@ -7,13 +7,13 @@ use lib.Dec.{eqb}
 use mir.Syntax.{w32}
 use mir.Val.{toZ, ofZ}
 use mir.ValLaws.{toZ-ofZ}
-use Rattle.bits.specs.Bits.{bit}
+use Rattle.tree.specs.Bits.{bit}
 use Rattle.record.proofs.Laws.{and-both}
 use Rattle.plan.specs.declared.Scanned.{Scanned}
-use Rattle.plan.specs.declared.Found.{Found}
+use Rattle.plan.specs.declared.Sought.{Sought}
 use Rattle.plan.specs.Limit.{mostPoints}
 use Rattle.plan.specs.Seeking.{seekOf}
-use Rattle.track.specs.Working.{scanOf}
+use Rattle.track.specs.Inner.{scanOf}
 use Rattle.track.proofs.Looking.{few}
 use Rattle.flat.specs.Flat.{flat}
 use Rattle.tables.specs.Table.{pointIn, tableIn}
@@ -53,7 +53,7 @@ show-requires c κs =
     let a = c .before .before .before .before .before .args in
     let e = found (c .before .before) in
     let t = sized (c .before .before .before .before) in
-    (eqb-true _ _ (t .0), eqb-true _ _ (t .1), subst (λ (f : Found). f .found ≡ true → f .at < mostPoints) (sym e) (sought-within (a .table .now) (a .count) (a .picture)))
+    (eqb-true _ _ (t .0), eqb-true _ _ (t .1), subst (λ (f : Sought). f .found ≡ true → f .at < mostPoints) (sym e) (sought-within (a .table .now) (a .count) (a .picture)))
 
 same-length : tie.Need-same-length
 same-length c = search needs
@@ -65,12 +65,12 @@ returns-2 c =
     let e = found (c .before .before .before .before) in
     let t = sized (c .before .before .before .before .before .before) in
     let show = c .before .show in (
-      show .ensures .0 ∙ ap (λ (f : Found). f .result) e ∙ sought-result l (a .count) (a .picture)
+      show .ensures .0 ∙ ap (λ (f : Sought). f .result) e ∙ sought-result l (a .count) (a .picture)
           ∙ right (isTable l && isRecord (a .numbers .now)) (looking l (a .count) (a .picture) .result) (and-both (isTable l) (isRecord (a .numbers .now)) (t .0) (t .1)),
       (
-        show .ensures .1 .0 ∙ ap (λ (f : Found). cond (eqb (show .result) 0 && f .found) (flat (pointIn l (f .at) .«record»)) (a .numbers .now)) e
+        show .ensures .1 .0 ∙ ap (λ (f : Sought). cond (eqb (show .result) 0 && f .found) (flat (pointIn l (f .at) .«record»)) (a .numbers .now)) e
             ∙ sought-record l (a .count) (a .picture) (eqb (show .result) 0) (a .numbers .now),
-        show .ensures .1 .1 ∙ ap (λ (f : Found). after (show .result) (bit (f .found)) (a .found .now)) e
+        show .ensures .1 .1 ∙ ap (λ (f : Sought). after (show .result) (bit (f .found)) (a .found .now)) e
             ∙ ap (λ (u : Bool). after (show .result) (bit u) (a .found .now)) (sought-found l (a .count) (a .picture)),
       ),
     )

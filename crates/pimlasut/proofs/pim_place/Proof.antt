@@ -2,7 +2,6 @@
 use Prim.Native.Nat.{ℕ}
 use mathlib.Core.Path.{_≡_, refl, sym, ap, _∙_}
 use mathlib.Core.Bool.{Bool, true, false, cond, _&&_}
-use mathlib.Core.List.{[], _∷_}
 use native.Mathlib.Omega.{arith}
 use borrow.Author.Tests.{eqb-true}
 use lib.Dec.{eqb}
@@ -10,17 +9,17 @@ use lib.IntN.{ℤ}
 use lib.ListN.{length}
 use mir.Syntax.{w32}
 use mir.ValLaws.{toZ-ofZ}
-use Rattle.bits.specs.Bits.{bit}
+use Rattle.refusals.specs.Refusals.{notValid}
 use Rattle.record.specs.declared.Record.{Record}
-use Rattle.record.specs.Valid.{valid}
 use Rattle.record.proofs.Laws.{and-both}
+use Rattle.valid.specs.Valid.{valid}
 use Rattle.plan.specs.Limit.{mostPoints}
 use Rattle.track.specs.declared.Point.{Point}
-use Rattle.track.specs.Track.{padded, placeOf, placeRefusal}
+use Rattle.track.specs.Track.{padded, placedPoints, placeRefusal}
 use Rattle.flat.specs.Flat.{flatLength, recordIn}
 use Rattle.flat.proofs.Named.{length-in}
 use Rattle.tables.specs.Table.{flatTable}
-use Rattle.pimlasut.specs.Boundary.{isRecord, isTable, placing}
+use Rattle.pimlasut.specs.Boundary.{isRecord, isTable, pointNamed, placing}
 use Rattle.pimlasut.proofs.Laws.{wrong, right, one-wrong, none-wrong, whole-row}
 use borrow.Author.Needs.{needs}
 use Rattle.pimlasut.proofs.pim_place.Statement.{statement}
@@ -30,13 +29,12 @@ use Rattle.pimlasut.proofs.pim_place.Tie as tie
 sized : (c : tie.Else1) → (isRecord (c .before .args .numbers .now) ≡ true) × (isTable (c .before .args .table .now) ≡ true)
 sized c = none-wrong (isRecord (c .before .args .numbers .now)) (isTable (c .before .args .table .now)) (c .if1 .left)
 
+abbrev point : ℤ → Record → Point
+point picture r = record { picture = picture; «record» = r }
+
 -- the record that the numbers name
 read : (c : tie.After-get-record) → c .get-record .result ≡ recordIn (c .before .before .args .numbers .now)
 read c = let l = c .before .before .args .numbers .now in c .get-record .ensures ∙ ap recordIn (whole-row l flatLength (eqb-true _ _ (sized (c .before) .0)))
-
-count-is : (t : Bool) (p : Point) → bit t ≡ length (cond t (p ∷ []) [])
-count-is true p = refl
-count-is false p = refl
 
 returns : tie.Need-returns
 returns c =
@@ -61,16 +59,19 @@ returns-2 : tie.Need-returns-2
 returns-2 c =
     let a = c .before .before .before .before .before .before .before .args in
     let r = recordIn (a .numbers .now) in
-    let e = read (c .before .before .before .before .before) in
+    let x = pointNamed (a .numbers .now) (a .picture) in
+    let got = c .before .before .before .before .before .get-record .result in
+    let e : got ≡ r = read (c .before .before .before .before .before) in
+    let z = toZ-ofZ w32 (a .picture) (c .before .before .before .before .before .before .before .fits .picture) in
     let t = sized (c .before .before .before .before .before .before) in
     let good : valid r ≡ true = sym (c .before .before .before .before .is-valid .ensures ∙ ap valid e) ∙ c .before .before .before .if2 .taken in
-    let done : placeRefusal r mostPoints ≡ 0 = ap (λ (u : Bool). cond u 0 14) good in
+    let done : placeRefusal x mostPoints ≡ 0 = ap (λ (u : Bool). cond u 0 notValid) good in
     let place = c .before .place-point in (
-      sym done ∙ right (isRecord (a .numbers .now) && isTable (a .table .now)) (placeRefusal r mostPoints) (and-both (isRecord (a .numbers .now)) (isTable (a .table .now)) (t .0) (t .1)),
+      sym done ∙ right (isRecord (a .numbers .now) && isTable (a .table .now)) (placeRefusal x mostPoints) (and-both (isRecord (a .numbers .now)) (isTable (a .table .now)) (t .0) (t .1)),
       (
-        place .ensures .1 ∙ ap (λ (z : ℤ). flatTable (padded (placeOf (c .before .before .before .before .before .get-record .result) z))) (toZ-ofZ w32 (a .picture) (c .before .before .before .before .before .before .before .fits .picture)) ∙ ap (λ (q : Record). flatTable (padded (placeOf q (a .picture)))) e,
-        place .ensures .0 ∙ ap (λ (q : Record). bit (q .refresh)) e ∙ count-is (r .refresh) (record { picture = a .picture; «record» = r })
-            ∙ sym (ap (λ (n : ℕ). cond (eqb n 0) (length (placeOf r (a .picture))) 0) done),
+        place .ensures .1 ∙ ap (λ (k : ℤ). flatTable (padded (placedPoints (point k got)))) z ∙ ap (λ (q : Record). flatTable (padded (placedPoints (point (a .picture) q)))) e,
+        place .ensures .0 ∙ ap (λ (k : ℤ). length (placedPoints (point k got))) z ∙ ap (λ (q : Record). length (placedPoints (point (a .picture) q))) e
+            ∙ sym (ap (λ (n : ℕ). cond (eqb n 0) (length (placedPoints x)) 0) done),
       ),
     )
 
@@ -78,10 +79,11 @@ returns-3 : tie.Need-returns-3
 returns-3 c =
     let a = c .before .before .before .before .args in
     let r = recordIn (a .numbers .now) in
+    let x = pointNamed (a .numbers .now) (a .picture) in
     let e = read (c .before .before) in
     let t = sized (c .before .before .before) in
     let bad : valid r ≡ false = sym (c .before .is-valid .ensures ∙ ap valid e) ∙ c .if2 .left in (
-      sym (ap (λ (u : Bool). cond u 0 14) bad) ∙ right (isRecord (a .numbers .now) && isTable (a .table .now)) (placeRefusal r mostPoints) (and-both (isRecord (a .numbers .now)) (isTable (a .table .now)) (t .0) (t .1)),
+      sym (ap (λ (u : Bool). cond u 0 notValid) bad) ∙ right (isRecord (a .numbers .now) && isTable (a .table .now)) (placeRefusal x mostPoints) (and-both (isRecord (a .numbers .now)) (isTable (a .table .now)) (t .0) (t .1)),
       (refl, refl),
     )
 

@@ -8,7 +8,7 @@ use lib.ListN.{length}
 use Rattle.record.proofs.Laws.{and-both}
 use Rattle.shader.specs.Shader.{bitsIn, conversionResult, conversionBits}
 use Rattle.flat.specs.Flat.{placeLength, blockNamed}
-use Rattle.pimlasut.specs.Boundary.{unless, singles, Patterns}
+use Rattle.pimlasut.specs.Boundary.{ifSized, singles, Patterns}
 use Rattle.pimlasut.proofs.Laws.{wrong, right, kept, one-wrong, none-wrong, whole-row}
 use Rattle.pimlasut.proofs.Patterns.{conversion-is-numbers}
 use borrow.Author.Needs.{needs}
@@ -25,7 +25,7 @@ sized c =
 
 whole-result : (c : tie.Else1)
     → let l = c .before .before .args .numbers .now in let d = c .before .before .args .bits .now in
-    conversionResult (blockNamed l) ≡ unless (eqb (length l) placeLength && eqb (length d) singles) (conversionResult (blockNamed l))
+    conversionResult (blockNamed l) ≡ ifSized (eqb (length l) placeLength && eqb (length d) singles) (conversionResult (blockNamed l))
 whole-result c =
     let l = c .before .before .args .numbers .now in
     let d = c .before .before .args .bits .now in

@@ -3,7 +3,7 @@ use mathlib.Core.Path.{refl}
 use native.Mathlib.Omega.{arith}
 use borrow.Author.Tests.{ne-eqb}
 use lib.ListN.{length}
-use Rattle.wrapper.specs.Wrapper.{wrapperBytes}
+use Rattle.syntax.specs.Wrapper.{wrapperBytes}
 use Rattle.promises.specs.Functions.{writeWrapped}
 use Rattle.flat.specs.Flat.{flatLength, recordIn}
 use Rattle.pimlasut.specs.Boundary.{isRecord}

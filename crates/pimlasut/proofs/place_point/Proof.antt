@@ -3,12 +3,10 @@ use mathlib.Core.Path.{sym, ap, _∙_}
 use mathlib.Core.Bool.{Bool, cond}
 use mathlib.Core.List.{List, [], _∷_}
 use lib.IntN.{ℤ}
+use lib.ListN.{length}
 use lib.Seq.{paste}
-use mir.Syntax.{w32}
-use mir.ValLaws.{toZ-ofZ}
-use Rattle.bits.specs.Bits.{bit}
-use Rattle.tables.specs.Table.{flatTable, flatPoint, pointLength}
 use Rattle.track.specs.Track.{padded}
+use Rattle.tables.specs.Table.{flatTable, flatPoint, pointLength}
 use Rattle.tables.proofs.Laws.{placed-none, placed-one, length-point}
 use borrow.Author.Needs.{needs}
 use Rattle.pimlasut.proofs.place_point.Statement.{statement}
@@ -25,16 +23,13 @@ same-length c = search needs
 
 returns : tie.Need-returns
 returns c =
-    let s = c .before .before .before .before .before .before .before in
-    let r = s .args .shown in
+    let x = c .before .before .before .before .before .before .before .before .args .point in
+    let pre = c .before .before .before .before .before .before .before .before .pre in
     let yes = c .before .before .before .if1 .taken in
-    let z = toZ-ofZ w32 (s .args .picture) (s .fits .picture) in (
-      sym (ap bit yes),
-      c .before .put-point .ensures
-          ∙ ap (λ (x : ℤ). paste (c .before .before .before .before .before .clear .last .0) 0 (flatPoint (record { picture = x; «record» = r })) pointLength) z
-          ∙ ap (λ (t : List ℤ). paste t 0 (flatPoint (record { picture = s .args .picture; «record» = r })) pointLength) (c .before .before .before .before .before .clear .ensures)
-          ∙ placed-one (record { picture = s .args .picture; «record» = r }) (length-point (record { picture = s .args .picture; «record» = r }) (s .pre .1))
-          ∙ sym (ap (λ (t : Bool). flatTable (padded (cond t (record { picture = s .args .picture; «record» = r } ∷ []) []))) yes),
+    let cleared = c .before .before .before .before .before .before .clear in (
+      sym (ap (λ (t : Bool). length (cond t (x ∷ []) [])) yes),
+      c .before .put-point .ensures ∙ ap (λ (t : List ℤ). paste t 0 (flatPoint x) pointLength) (cleared .ensures) ∙ placed-one x (length-point x (pre .1))
+          ∙ sym (ap (λ (t : Bool). flatTable (padded (cond t (x ∷ []) []))) yes),
     )
 
 same-length-2 : tie.Need-same-length-2
@@ -42,11 +37,10 @@ same-length-2 c = search needs
 
 returns-2 : tie.Need-returns-2
 returns-2 c =
-    let s = c .before .before .before .before in
-    let r = s .args .shown in
+    let x = c .before .before .before .before .before .args .point in
     let no = c .if1 .left in (
-      sym (ap bit no),
-      c .before .before .clear .ensures ∙ placed-none ∙ sym (ap (λ (t : Bool). flatTable (padded (cond t (record { picture = s .args .picture; «record» = r } ∷ []) []))) no),
+      sym (ap (λ (t : Bool). length (cond t (x ∷ []) [])) no),
+      c .before .before .before .clear .ensures ∙ placed-none ∙ sym (ap (λ (t : Bool). flatTable (padded (cond t (x ∷ []) []))) no),
     )
 
 pub place-point-spec : {M : Type 1} → statement M

@@ -3,7 +3,7 @@ use mathlib.Core.Path.{refl, sym, ap, _∙_}
 use mathlib.Core.Bool.{Bool, cond, _&&_}
 use borrow.Author.Tests.{ne-eqb}
 use lib.Seq.{paste}
-use Rattle.bits.specs.Bits.{bit}
+use Rattle.tree.specs.Bits.{bit}
 use Rattle.track.specs.declared.Point.{Point}
 use Rattle.flat.specs.Flat.{flat, flatLength}
 use Rattle.flat.proofs.Named.{length-flat}

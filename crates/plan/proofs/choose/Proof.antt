@@ -25,7 +25,7 @@ returns : tie.Need-returns
 returns d =
     let c = d .before in
     let a = c .before .args in
-    d .take-off .ensures ∙ ap turnOf (only-x (a .more) (a .further) (tag (a .e) (a .x)) (tag (mostPoints + a .f) (a .y)) (c .if1 .taken))
+    d .take-off .ensures ∙ ap turnOf (only-x (a .remains) (a .further) (tag (a .e) (a .x)) (tag (mostPoints + a .f) (a .y)) (c .if1 .taken))
 
 take-off-requires-2 : tie.Need-take-off-requires-2
 take-off-requires-2 c κs = search needs
@@ -34,7 +34,7 @@ returns-2 : tie.Need-returns-2
 returns-2 d =
     let c = d .before in
     let a = c .before .before .args in
-    d .take-off2 .ensures ∙ ap turnOf (only-y (a .more) (a .further) (tag (a .e) (a .x)) (tag (mostPoints + a .f) (a .y)) (c .before .if1 .left) (c .if2 .taken))
+    d .take-off2 .ensures ∙ ap turnOf (only-y (a .remains) (a .further) (tag (a .e) (a .x)) (tag (mostPoints + a .f) (a .y)) (c .before .if1 .left) (c .if2 .taken))
 
 take-off-requires-3 : tie.Need-take-off-requires-3
 take-off-requires-3 c κs = search needs
@@ -47,7 +47,7 @@ returns-3 d =
     let x = tag (a .e) (a .x) in
     let y = tag (mostPoints + a .f) (a .y) in
     d .take-off3 .ensures
-    ∙ ap turnOf (both-there (a .more) (a .further) x y _ (c .before .before .if1 .left) (c .before .if2 .left) (first x y (flag (a .x) (a .y) true (s .fits .x) (s .fits .y) (c .if3 .taken))))
+    ∙ ap turnOf (both-there (a .remains) (a .further) x y _ (c .before .before .if1 .left) (c .before .if2 .left) (first x y (flag (a .x) (a .y) true (s .fits .x) (s .fits .y) (c .if3 .taken))))
 
 take-off-requires-4 : tie.Need-take-off-requires-4
 take-off-requires-4 c κs = search needs
@@ -60,7 +60,7 @@ returns-4 d =
     let x = tag (a .e) (a .x) in
     let y = tag (mostPoints + a .f) (a .y) in
     d .take-off4 .ensures
-    ∙ ap turnOf (both-there (a .more) (a .further) x y _ (c .before .before .before .if1 .left) (c .before .before .if2 .left)
+    ∙ ap turnOf (both-there (a .remains) (a .further) x y _ (c .before .before .before .if1 .left) (c .before .before .if2 .left)
     (second x y (flag (a .x) (a .y) false (s .fits .x) (s .fits .y) (c .before .if3 .left)) (flag (a .y) (a .x) true (s .fits .y) (s .fits .x) (c .if4 .taken))))
 
 take-off-requires-5 : tie.Need-take-off-requires-5
@@ -74,7 +74,7 @@ returns-5 d =
     let x = tag (a .e) (a .x) in
     let y = tag (mostPoints + a .f) (a .y) in
     d .take-off5 .ensures
-    ∙ ap turnOf (both-there (a .more) (a .further) x y _ (c .before .before .before .if1 .left) (c .before .before .if2 .left)
+    ∙ ap turnOf (both-there (a .remains) (a .further) x y _ (c .before .before .before .if1 .left) (c .before .before .if2 .left)
     (level x y (flag (a .x) (a .y) false (s .fits .x) (s .fits .y) (c .before .if3 .left)) (flag (a .y) (a .x) false (s .fits .y) (s .fits .x) (c .if4 .left))))
 
 pub choose-spec : {M : Type 1} → statement M

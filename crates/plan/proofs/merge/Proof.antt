@@ -12,6 +12,7 @@ use mir.ValLaws.{toZ-ofZ}
 use borrow.Author.Needs.{needs}
 use lib.ListN.{length, take, getD}
 use lib.Seq.{length-take-le}
+use Rattle.plan.specs.Limit.{mostPoints}
 use Rattle.plan.specs.declared.Turn.{Turn}
 use Rattle.plan.specs.Planning.{tag, firstTags, secondTags, mergedSources, nextOf, turnOf, clamped}
 use Rattle.plan.proofs.Merging.{Merging, Comes, begins, turns, too-long, ends, comes-at, tags-length}
@@ -24,24 +25,24 @@ Inv-loop n m a b out₀ i₀ j₀ k₀ out i j k = Merging (mergedSources a n b 
 abbrev μ-loop : tie.MeasureT-loop
 μ-loop n m a b out₀ i₀ j₀ k₀ out i j k = n + m - (i + j)
 
-whole-a : (c : tie.Start Inv-loop μ-loop) → length (c .args .t1) ≡ 64
+whole-a : (c : tie.Start Inv-loop μ-loop) → length (c .args .t1) ≡ mostPoints
 whole-a c = c .good .0 .1 .0 .1
 
-whole-b : (c : tie.Start Inv-loop μ-loop) → length (c .args .t3) ≡ 64
+whole-b : (c : tie.Start Inv-loop μ-loop) → length (c .args .t3) ≡ mostPoints
 whole-b c = c .good .1 .1 .0 .1 .0 .1
 
 size-a : (c : tie.Start Inv-loop μ-loop) → length (firstTags (c .args .n) (c .args .t1)) ≡ c .args .n
 size-a c = tags-length 0 (take (c .args .n) (c .args .t1)) ∙ length-take-le (c .args .n) (c .args .t1) (let w = whole-a c in let h = c .pre .0 in omega (arith, w, h))
 
 size-b : (c : tie.Start Inv-loop μ-loop) → length (secondTags (c .args .m) (c .args .t3)) ≡ c .args .m
-size-b c = tags-length 64 (take (c .args .m) (c .args .t3)) ∙ length-take-le (c .args .m) (c .args .t3) (let w = whole-b c in let h = c .pre .1 in omega (arith, w, h))
+size-b c = tags-length mostPoints (take (c .args .m) (c .args .t3)) ∙ length-take-le (c .args .m) (c .args .t3) (let w = whole-b c in let h = c .pre .1 in omega (arith, w, h))
 
 pub record Bounds (n m i j k : ℕ) : Type 0 where
   pub left : i ≤ n
   pub right : j ≤ m
-  pub n-small : n ≤ 64
-  pub m-small : m ≤ 64
-  pub count : k ≤ 64
+  pub n-small : n ≤ mostPoints
+  pub m-small : m ≤ mostPoints
+  pub count : k ≤ mostPoints
 
 bounds : (c : tie.At-loop Inv-loop μ-loop) → Bounds (c .before .args .n) (c .before .args .m) (c .loop .i) (c .loop .j) (c .loop .k)
 bounds c =
@@ -61,7 +62,7 @@ abbrev ComesAt : (c : tie.In-loop Inv-loop μ-loop) → Turn → Type 0
 ComesAt c N = Comes (firstTags (c .before .before .args .n) (c .before .before .args .t1)) (secondTags (c .before .before .args .m) (c .before .before .args .t3)) (c .before .loop .i) (c .before .loop .j) N
 
 abbrev turnAt : (c : tie.In-loop Inv-loop μ-loop) (e f : ℕ) (x y : ℤ) → Turn
-turnAt c e f x y = turnOf (nextOf (ltb (c .before .loop .i) (c .before .before .args .n)) (tag e x) (ltb (c .before .loop .j) (c .before .before .args .m)) (tag (64 + f) y))
+turnAt c e f x y = turnOf (nextOf (ltb (c .before .loop .i) (c .before .before .args .n)) (tag e x) (ltb (c .before .loop .j) (c .before .before .args .m)) (tag (mostPoints + f) y))
 
 fronted : (c : tie.In-loop Inv-loop μ-loop) (e f : ℕ) → e ≡ clamped (c .before .loop .i) → f ≡ clamped (c .before .loop .j)
     → ComesAt c (turnAt c e f (getD (c .before .before .args .t1) e (pos 0)) (getD (c .before .before .args .t3) f (pos 0)))
@@ -81,7 +82,7 @@ chosen c =
     ∙ ap (turnAt l e f (getD (l .before .before .args .t1) e (pos 0))) (toZ-ofZ w32 _ (fits-y (c .before)))))
     (fronted l e f (c .before .before .before .before .clamp .ensures .0) (c .before .before .clamp2 .ensures .0))
 
-room : (c : tie.Else1 Inv-loop μ-loop) → c .before .before .loop .k < 64
+room : (c : tie.Else1 Inv-loop μ-loop) → c .before .before .loop .k < mostPoints
 room c = let h = bounds (c .before .before) .count in ⊎-elim (λ e. absurd (c .if1 .left e)) (λ l. l) (eq-or-lt-of-le h)
 
 loop-holds : tie.Need-loop-holds Inv-loop μ-loop

@@ -11,6 +11,7 @@ use mir.ValLaws.{toZ-ofZ}
 use lib.IntN.{ℤ, pos}
 use lib.Signed.{ltZ}
 use lib.ListN.{length, take, drop, getD}
+use Rattle.plan.specs.Limit.{mostPoints}
 use Rattle.plan.specs.Seeking.{reachOf}
 use Rattle.plan.proofs.Reaching.{stops, goes-on, ends}
 use Rattle.plan.proofs.reach.Statement.{statement}
@@ -26,7 +27,7 @@ abbrev μ-loop : tie.MeasureT-loop
 number : (c : tie.Start Inv-loop μ-loop) → toZ w32 (ofZ w32 (c .args .picture)) ≡ c .args .picture
 number c = toZ-ofZ w32 (c .args .picture) (c .fits .picture)
 
-whole : (c : tie.Start Inv-loop μ-loop) → length (c .args .t1) ≡ 64
+whole : (c : tie.Start Inv-loop μ-loop) → length (c .args .t1) ≡ mostPoints
 whole c = c .good .0 .1 .0 .1
 
 -- ---- after the element is read: the test is of the two numbers

@@ -1,8 +1,8 @@
 -- `reader::read_blocks` meets its contract. The invariant: the record holds the blocks met, and the answer from here is the answer from the start.
 use Prim.Native.Nat.{_+_, _-_}
-use mathlib.Core.Path.{_∙_}
+use mathlib.Core.Path.{_∙_, sym}
 use native.Mathlib.Omega.{arith}
-use Rattle.bits.specs.Bits.{bitsOf}
+use Rattle.tree.specs.Bits.{bitsOf}
 use Rattle.reader.proofs.Laws.{Reached, reached-none, reached-count, reached-all, reached-no, reached-repeated, reached-more}
 use borrow.Author.Needs.{needs}
 use Rattle.reader.proofs.read_blocks.Statement.{statement}
@@ -36,7 +36,7 @@ returns : tie.Need-returns Inv-loop μ-loop
 returns c =
     let a = c .before .before .before .before .before .before .before .before .before .args in
     let l = c .before .before .before .before .before .before .loop in
-    c .refused .ensures ∙ reached-no (a .refresh) (bitsOf (a .s .now)) (a .start) (a .n) (l .r) (l .width) (l .i) (l .inv) (omega arith) (c .before .before .why .given .0 .0) (cc)
+    c .refused .ensures ∙ reached-no (a .refresh) (bitsOf (a .s .now)) (a .start) (a .n) (l .r) (l .width) (l .i) (l .inv) (omega arith) (c .before .before .why .given .0 .0) (sym (c .before .before .why .given .1) ∙ c .before .before .before .before .read-block .ensures)
 
 enum-known-block : tie.Need-enum-known-block Inv-loop μ-loop
 enum-known-block c = search needs
@@ -57,7 +57,7 @@ again c =
     let a = c .before .before .before .before .before .before .before .before .before .before .before .args in
     let l = c .before .before .before .before .before .before .before .before .loop in
     let g = c .before .before .before .before .block .given in
-    rw (c .with-block .ensures) (reached-more (a .refresh) (bitsOf (a .s .now)) (a .start) (a .n) (l .r) (l .width) (l .i) (l .inv) (omega arith) (g .0 .0) (g .0 .1 .0) (cc) (omega arith) (cc))
+    rw (c .with-block .ensures) (reached-more (a .refresh) (bitsOf (a .s .now)) (a .start) (a .n) (l .r) (l .width) (l .i) (l .inv) (omega arith) (g .0 .0) (g .0 .1 .0) (sym (g .1) ∙ c .before .before .before .before .before .before .read-block .ensures) (omega arith) (sym (c .before .before .may-follow .ensures) ∙ c .before .if1 .taken))
 
 add-width : tie.Need-add-width Inv-loop μ-loop
 add-width c = let x = again c in omega (arith, x .short)
@@ -79,7 +79,7 @@ returns-2 c =
     let a = c .before .before .before .before .before .before .before .before .before .before .before .args in
     let l = c .before .before .before .before .before .before .before .before .loop in
     let g = c .before .before .before .before .block .given in
-    c .refused2 .ensures ∙ reached-repeated (a .refresh) (bitsOf (a .s .now)) (a .start) (a .n) (l .r) (l .width) (l .i) (l .inv) (omega arith) (g .0 .0) (g .0 .1 .0) (cc) (cc)
+    c .refused2 .ensures ∙ reached-repeated (a .refresh) (bitsOf (a .s .now)) (a .start) (a .n) (l .r) (l .width) (l .i) (l .inv) (omega arith) (g .0 .0) (g .0 .1 .0) (sym (g .1) ∙ c .before .before .before .before .before .before .read-block .ensures) (sym (c .before .before .may-follow .ensures) ∙ c .before .if1 .left)
 
 accepted-requires : tie.Need-accepted-requires Inv-loop μ-loop
 accepted-requires c κs = search needs

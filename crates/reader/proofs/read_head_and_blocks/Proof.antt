@@ -2,11 +2,14 @@
 use mathlib.Core.Path.{_≡_, _∙_, sym, ap}
 use native.Mathlib.Omega.{arith}
 use lib.ListN.{drop}
-use Rattle.bits.specs.Bits.{bitsOf}
-use Rattle.bits.specs.Reading.{ok}
-use Rattle.syntax.specs.Data.{Head}
+use Rattle.tree.specs.Bits.{bitsOf}
+use Rattle.tree.specs.Reading.{ok}
+use Rattle.tree.specs.Syntax.{read}
+use Rattle.syntax.specs.Data.{Head, announced}
+use Rattle.head.specs.Opening.{opening}
+use Rattle.head.proofs.Laws.{opening-ok, opening-no, opening-few}
 use Rattle.reader.specs.Reading.{foundOf}
-use Rattle.reader.proofs.Laws.{opening-ok, opening-no, found-ok, found-no, headReader, takes-head, few-head, blocksOf, takes-blocks-of, both-no, both-later, both-ok}
+use Rattle.reader.proofs.Laws.{found-ok, found-no, blocksFrom, blocks-few, both-refused, both-later, both-ok}
 use borrow.Author.Needs.{needs}
 use Rattle.reader.proofs.read_head_and_blocks.Statement.{statement}
 use Rattle.reader.proofs.read_head_and_blocks.Tie as tie
@@ -25,18 +28,17 @@ enum-known-refresh c = search needs
 
 -- the head that was read
 abbrev head : (c : tie.After-known-told2) → Head
-head c = record { refresh = c .before .refresh .given .0 .0; count = c .before .refresh .given .0 .1 .0 }
+head c = announced (c .before .refresh .given .0 .0) (c .before .refresh .given .0 .1 .0)
 
-first : (c : tie.After-known-told2) → headReader (bitsOf (c .before .before .before .before .before .args .s .now)) ≡ ok (head c) (c .before .refresh .given .0 .1 .1 .0)
+first : (c : tie.After-known-told2) → read opening 0 (bitsOf (c .before .before .before .before .before .args .s .now)) ≡ ok (head c) (c .before .refresh .given .0 .1 .1 .0)
 first c =
     let r = c .before .refresh .given in
-    opening-ok (headReader (bitsOf (c .before .before .before .before .before .args .s .now))) (r .0 .0) (r .0 .1 .0) (r .0 .1 .1 .0) (cc)
+    opening-ok (read opening 0 (bitsOf (c .before .before .before .before .before .args .s .now))) (r .0 .0) (r .0 .1 .0) (r .0 .1 .1 .0) (sym (r .1) ∙ c .before .before .before .read-head .ensures)
 
 read-blocks-requires : tie.Need-read-blocks-requires
 read-blocks-requires c κs =
-    let s = bitsOf (c .before .before .before .before .before .args .s .now) in
-    let n = c .before .refresh .given .0 .1 .1 .0 in
-    (omega (arith, takes-head s (head c) n (first c)), few-head s (head c) n (first c))
+    let f = opening-few (bitsOf (c .before .before .before .before .before .args .s .now)) (head c) (c .before .refresh .given .0 .1 .1 .0) (first c) in
+    (omega (arith, f), f .0)
 
 add-accepted : tie.Need-add-accepted
 add-accepted c =
@@ -44,8 +46,8 @@ add-accepted c =
     let s = bitsOf (d .before .before .before .before .before .args .s .now) in
     let n = d .before .refresh .given .0 .1 .1 .0 in
     let x = c .before .before .before .read-blocks .result in
-    let e = found-ok (blocksOf (head d) (drop n s)) x (c .before .before .before .read-blocks .ensures) (cc) in
-    omega (arith, takes-head s (head d) n (first d), few-head s (head d) n (first d), takes-blocks-of (head d) (drop n s) (x .«record») (x .width) e)
+    let e = found-ok (blocksFrom (head d) n (drop n s)) x (c .before .before .before .read-blocks .ensures) (c .before .before .if1 .taken) in
+    omega (arith, opening-few s (head d) n (first d), blocks-few (drop n s) (head d) n (x .«record») (x .width) e)
 
 accepted-requires : tie.Need-accepted-requires
 accepted-requires c κs = search needs
@@ -54,7 +56,7 @@ returns : tie.Need-returns
 returns c =
     let s = bitsOf (c .before .before .before .before .before .before .args .s .now) in
     let r = c .before .before .why .given .0 .0 in
-    c .refused .ensures ∙ sym (ap foundOf (both-no s r (opening-no (headReader s) r (cc))))
+    c .refused .ensures ∙ both-refused s r (opening-no (read opening 0 s) r (sym (c .before .before .why .given .1) ∙ c .before .before .before .before .read-head .ensures))
 
 returns-2 : tie.Need-returns-2
 returns-2 c =
@@ -62,7 +64,7 @@ returns-2 c =
     let s = bitsOf (d .before .before .before .before .before .args .s .now) in
     let n = d .before .refresh .given .0 .1 .1 .0 in
     let x = c .before .before .before .before .read-blocks .result in
-    let e = found-ok (blocksOf (head d) (drop n s)) x (c .before .before .before .before .read-blocks .ensures) (cc) in
+    let e = found-ok (blocksFrom (head d) n (drop n s)) x (c .before .before .before .before .read-blocks .ensures) (c .before .before .before .if1 .taken) in
     c .accepted .ensures ∙ sym (ap foundOf (both-ok s (head d) n (first d) (x .«record») (x .width) e))
 
 returns-3 : tie.Need-returns-3
@@ -71,8 +73,8 @@ returns-3 c =
     let s = bitsOf (d .before .before .before .before .before .args .s .now) in
     let n = d .before .refresh .given .0 .1 .1 .0 in
     let x = c .before .read-blocks .result in
-    let e = found-no (blocksOf (head d) (drop n s)) x (c .before .read-blocks .ensures) (cc) in
-    c .before .read-blocks .ensures ∙ ap foundOf (e ∙ sym (both-later s (head d) n (first d) (x .why) e))
+    let e = found-no (blocksFrom (head d) n (drop n s)) x (c .before .read-blocks .ensures) (c .if1 .left) in
+    c .before .read-blocks .ensures ∙ ap foundOf (e .1 ∙ sym (both-later s (head d) n (first d) (e .0) (e .1)))
 
 pub read-head-and-blocks-spec : {M : Type 1} → statement M
 read-head-and-blocks-spec =

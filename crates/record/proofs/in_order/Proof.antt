@@ -1,7 +1,7 @@
 -- `record::in_order` meets its contract.
 use mathlib.Core.Path.{sym, ap}
 use borrow.Author.Needs.{needs}
-use Rattle.record.specs.Valid.{inOrder}
+use Rattle.record.specs.Blocks.{inOrder}
 use Rattle.record.proofs.in_order.Statement.{statement}
 use Rattle.record.proofs.in_order.Tie as tie
 

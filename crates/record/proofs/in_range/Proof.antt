@@ -7,7 +7,7 @@ use lib.IntN.{ℤ, pos, negsuc}
 use lib.Signed.{leZ}
 use mir.Val.{toZ, ofZ}
 use mir.Syntax.{w16}
-use Rattle.bits.specs.Coding.{signed, holds, holdAll}
+use Rattle.tree.specs.Coding.{signed, holds, holdAll}
 use Rattle.record.proofs.in_range.Statement.{statement}
 use Rattle.record.proofs.in_range.Tie as tie
 

@@ -1,5 +1,5 @@
 -- `record::padding_of` meets its contract.
-use Rattle.bits.specs.Coding.{totalWidth}
+use Rattle.tree.specs.Coding.{totalWidth}
 use Rattle.record.proofs.Laws.{no-level}
 use Rattle.record.proofs.padding_of.Statement.{statement}
 use Rattle.record.proofs.padding_of.Tie as tie

@@ -3,7 +3,7 @@ use mathlib.Core.Path.{_≡_, refl, ap, _∙_}
 use mir.Syntax.{w16}
 use mir.Val.{toZ, ofZ}
 use mir.ValLaws.{toZ-ofZ}
-use Rattle.shader.specs.Shader.{singleBits}
+use Rattle.singles.specs.Singles.{singleBits}
 use Rattle.shader.proofs.Ranges.{Codes, codes}
 use Rattle.shader.proofs.converted.Statement.{statement}
 use Rattle.shader.proofs.converted.Tie as tie

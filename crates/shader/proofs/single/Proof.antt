@@ -1,7 +1,7 @@
 -- `shader::single` meets its contract.
 use borrow.Author.Needs.{needs}
 use lib.IntN.{pos}
-use Rattle.shader.proofs.Codes.{quotient-bits}
+use Rattle.singles.proofs.Codes.{quotient-bits}
 use Rattle.shader.proofs.single.Statement.{statement}
 use Rattle.shader.proofs.single.Tie as tie
 

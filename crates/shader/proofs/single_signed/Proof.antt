@@ -2,7 +2,7 @@
 use borrow.Author.Needs.{needs}
 use mir.Syntax.{w16}
 use mir.ValLaws.{toZ-ofZ}
-use Rattle.shader.proofs.Codes.{quotient-bits}
+use Rattle.singles.proofs.Codes.{quotient-bits}
 use Rattle.shader.proofs.single_signed.Statement.{statement}
 use Rattle.shader.proofs.single_signed.Tie as tie
 

@@ -2,10 +2,9 @@
 use borrow.Author.Needs.{needs}
 use Prim.Native.Nat.{_≤_}
 use mathlib.Core.Path.{sym}
-use lib.ListN.{length, replicate}
+use lib.ListN.{length}
 use lib.Seq.{length-take-le}
-use Rattle.writer.proofs.Answers.{inside}
-use Rattle.listing.specs.Listing.{listing, listable}
+use Rattle.listing.proofs.Cases.{listed-inside}
 use Rattle.show.proofs.main.Statement.{statement}
 use Rattle.show.proofs.main.Tie as tie
 
@@ -35,9 +34,7 @@ write-listing-requires c κs = search needs
 
 -- the listing lies in the text
 listed : (c : tie.After-write-listing) → c .write-listing .result .bytes ≤ length (c .write-listing .last .1 .0)
-listed c =
-    let q = c .before .before .read-wrapped .result in
-    rw (c .write-listing .ensures .0, c .write-listing .kept .1 .0) (inside (listing q) (listable q) (replicate 1586 0))
+listed c = listed-inside (c .before .before .read-wrapped .result) (c .write-listing .kept .1 .0) (c .write-listing .ensures .0)
 
 array-share-prefix-text : tie.Need-array-share-prefix-text
 array-share-prefix-text c = listed (c .before)

@@ -1,12 +1,9 @@
 -- `tables::chosen` meets its contract, source by source.
 use mathlib.Core.Path.{ap, sym, _∙_}
-use lib.IntN.{pos}
 use borrow.Author.Tests.{lt-ltb, le-ltb}
 use Rattle.plan.specs.Limit.{mostPoints}
 use Rattle.plan.specs.Planning.{neither}
-use Rattle.record.specs.declared.Record.{Record}
-use Rattle.track.specs.Track.{cleared}
-use Rattle.track.specs.Working.{pointAt}
+use Rattle.track.specs.Inner.{pointAt}
 use Rattle.track.proofs.Filled.{chosen-first, chosen-second, chosen-neither}
 use Rattle.tables.specs.Table.{tableIn}
 use Rattle.tables.proofs.Laws.{table-at}
@@ -40,14 +37,13 @@ returns-2 c =
     ∙ ap (pointAt (tableIn (a .second .now))) (c .before .right .ensures .0)
     ∙ chosen-second (tableIn (a .first .now)) (tableIn (a .second .now)) (a .source) (le-ltb (a .source) mostPoints (c .before .before .before .if1 .left)) (lt-ltb (a .source) neither (c .before .before .if2 .taken))
 
-empty-requires : tie.Need-empty-requires
-empty-requires c κs = search needs
+cleared-point-requires : tie.Need-cleared-point-requires
+cleared-point-requires c κs = search needs
 
 returns-3 : tie.Need-returns-3
-unfolding cleared
 returns-3 c =
     let a = c .before .before .before .args in
-    ap (λ (r : Record). record { picture = pos 0; «record» = r }) (c .empty .ensures)
+    c .cleared-point .ensures
     ∙ chosen-neither (tableIn (a .first .now)) (tableIn (a .second .now)) (a .source) (le-ltb (a .source) mostPoints (c .before .before .if1 .left)) (le-ltb (a .source) neither (c .before .if2 .left))
 
 pub chosen-spec : {M : Type 1} → statement M
@@ -60,5 +56,5 @@ chosen-spec =
     right-requires
     get-point-requires-2
     returns-2
-    empty-requires
+    cleared-point-requires
     returns-3)

@@ -7,13 +7,13 @@ use native.Mathlib.Omega.{arith}
 use lib.IntN.{ℤ, pos}
 use lib.ListN.{length, take, drop, set, length-set}
 use Rattle.flat.proofs.Rows.{copy-more}
+use Rattle.tables.specs.Table.{tableLength, zeroRow}
 use Rattle.tables.proofs.Laws.{length-zeros, zeros-at, all-zeros}
-use Rattle.tables.specs.Table.{tableLength, zeros}
 use Rattle.tables.proofs.clear.Statement.{statement}
 use Rattle.tables.proofs.clear.Tie as tie
 
 abbrev Inv-loop : tie.InvT-loop
-Inv-loop table₀ i₀ table i = (i ≤ tableLength) × (length table ≡ length table₀) × (table ≡ take i (zeros tableLength) ++ drop i table₀)
+Inv-loop table₀ i₀ table i = (i ≤ tableLength) × (length table ≡ length table₀) × (table ≡ take i (zeroRow tableLength) ++ drop i table₀)
 
 abbrev μ-loop : tie.MeasureT-loop
 μ-loop table₀ i₀ table i = tableLength - i
@@ -37,7 +37,7 @@ loop-again : tie.Need-loop-again Inv-loop μ-loop
 loop-again c =
     let l = c .before .loop in
     let d = c .before .before .args .table .now in
-    let z = zeros tableLength in (
+    let z = zeroRow tableLength in (
       omega arith,
       length-set (l .table) (l .i) (pos 0) ∙ l .inv .1,
       ap (λ (t : List ℤ). set t (l .i) (pos 0)) (l .inv .2)
@@ -54,7 +54,7 @@ returns c =
     let l = c .before .loop in
     let d = c .before .before .args .table .now in
     let e : l .i ≡ tableLength = omega arith in
-    l .inv .2 ∙ ap (λ (k : ℕ). take k (zeros tableLength) ++ drop k d) e ∙ all-zeros d tableLength (c .before .before .pre)
+    l .inv .2 ∙ ap (λ (k : ℕ). take k (zeroRow tableLength) ++ drop k d) e ∙ all-zeros d tableLength (c .before .before .pre)
 
 pub clear-spec : {M : Type 1} → statement M
 clear-spec =

@@ -75,13 +75,13 @@ loop-again c =
     let next : take pointLength (flatPoint p) ≡ take pointLength (drop (pointLength * l .k) row) =
     take-all pointLength (flatPoint p) (omega (arith, ap (λ (q : Point). length (flatPoint q)) point, length-chosen a b (getD sources (l .k) 0))) ∙ ap flatPoint point ∙ sym (laid-at a b sources (l .k) h) in
     let zero : 0 + pointLength * l .k ≡ pointLength * l .k = omega arith in
-    let more : pointLength * l .k + pointLength ≡ pointLength * (l .k + 1) = omega arith in (
+    let next-at : pointLength * l .k + pointLength ≡ pointLength * (l .k + 1) = omega arith in (
       omega arith,
       put .kept .0 ∙ l .inv .1,
       put .ensures ∙ ap (λ (t : List ℤ). paste t (pointLength * l .k) (flatPoint p) pointLength) (l .inv .2)
           ∙ ap (λ (j : ℕ). paste (paste d 0 row (pointLength * l .k)) j (flatPoint p) pointLength) (sym zero)
           ∙ paste-more d 0 row (pointLength * l .k) (flatPoint p) pointLength (omega arith) (omega (arith, laid-length a b sources)) next
-          ∙ ap (paste d 0 row) more,
+          ∙ ap (paste d 0 row) next-at,
     )
 
 same-length : tie.Need-same-length Inv-loop μ-loop

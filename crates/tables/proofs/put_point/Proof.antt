@@ -8,6 +8,7 @@ use lib.Seq.{paste}
 use mir.Syntax.{w32}
 use mir.ValLaws.{toZ-ofZ}
 use Rattle.flat.specs.Flat.{flat, flatLength}
+use Rattle.tables.specs.Table.{pointLength}
 use Rattle.tables.proofs.Laws.{point-pasted}
 use borrow.Author.Needs.{needs}
 use Rattle.tables.proofs.put_point.Statement.{statement}
@@ -37,8 +38,8 @@ returns c =
     let d = s .args .table .now in
     let p = s .args .point in
     c .before .put-record .ensures
-    ∙ ap (λ (z : ℤ). paste (set d (147 * s .args .i) z) (147 * s .args .i + 1) (flat (p .«record»)) flatLength) (toZ-ofZ w32 (p .picture) (record { sfits = c .before .before .before .before .struct-told .given .0 .1 }))
-    ∙ point-pasted d (147 * s .args .i) p (omega (arith, s .pre))
+    ∙ ap (λ (z : ℤ). paste (set d (pointLength * s .args .i) z) (pointLength * s .args .i + 1) (flat (p .«record»)) flatLength) (toZ-ofZ w32 (p .picture) (record { sfits = c .before .before .before .before .struct-told .given .0 .1 }))
+    ∙ point-pasted d (pointLength * s .args .i) p (omega (arith, s .pre))
 
 pub put-point-spec : {M : Type 1} → statement M
 put-point-spec =

@@ -7,7 +7,7 @@ use borrow.Author.Needs.{needs}
 use Rattle.plan.specs.declared.Scanned.{Scanned}
 use Rattle.plan.specs.Limit.{mostPoints}
 use Rattle.plan.specs.Scanning.{extentOf, begun}
-use Rattle.track.specs.Working.{notedPoint, scannedTo}
+use Rattle.track.specs.Inner.{notedPoint, scannedTo}
 use Rattle.track.proofs.Within.{extent-le}
 use Rattle.tables.specs.Table.{tableIn}
 use Rattle.tables.proofs.Laws.{length-table, table-at}

@@ -50,16 +50,9 @@ use denote.Triple.Spec.{Meets, tripleOf}
 use denote.Triple.Table.{entered, cited}
 use denote.Triple.Walked.{says, needs, Stays, stay-slice, stay-none-slice, stay-none, walkOf, Walks, ends-at, walked, goes-slice, goes-none-slice, goes-none, walk-meets}
 use denote.Exit.{yes}
-use Rattle.track.specs.Track.{cleared}
-use Rattle.track.specs.Working.{unfilled, pointAt, setTo, chosenOf, filledTo}
-use Rattle.track.specs.declared.Point.{Point}
-use Rattle.track.proofs.Point as P
-use Rattle.track.proofs.Point.Laws as P′
 use Rattle.plan.specs.Limit.{mostPoints}
 use Rattle.plan.specs.Planning.{neither, boundOf, sourceAt, leftOf, rightOf}
-use Rattle.track.proofs.Size.{pointSize, offset-fits, split-on, side}
 use Rattle.plan.specs.declared.Layout.{Layout}
-use Rattle.track.proofs.Filled.{set-to-length, fill-is, chosen-first, chosen-second, chosen-neither, bound-le, bound-done, sources-length}
 use Rattle.plan.proofs.Layout as L
 use Rattle.plan.proofs.Layout.Laws as L′
 use Rattle.plan.proofs.bound as bound
@@ -78,6 +71,13 @@ use Rattle.plan.proofs.right as right
 use Rattle.plan.proofs.right.Symbol as right-def
 use Rattle.plan.proofs.right.Symbol.{name as #right}
 use Rattle.plan.proofs.right.Met as right-thm
+use Rattle.track.specs.Track.{cleared}
+use Rattle.track.specs.Inner.{unfilled, pointAt, setTo, chosenOf, filledTo}
+use Rattle.track.specs.declared.Point.{Point}
+use Rattle.track.proofs.Point as P
+use Rattle.track.proofs.Point.Laws as P′
+use Rattle.track.proofs.Size.{pointSize, offset-fits, split-on, side}
+use Rattle.track.proofs.Filled.{set-to-length, fill-is, chosen-first, chosen-second, chosen-neither, bound-le, bound-done, sources-length}
 use Rattle.track.proofs.cleared_point as clear
 use Rattle.track.proofs.cleared_point.Symbol as clear-def
 use Rattle.track.proofs.cleared_point.Symbol.{name as #clear}
@@ -114,11 +114,11 @@ module _ {M : Type 1} (𝓤 : URA M) (H : Heap 𝓤) (A : Atoms 𝓤) (mem : Mem
   code-of : (l : Layout) (k r : ℕ) → ent 𝓤 (ensured 𝓤 H A code-at.ended (code-at.clauses 𝓤 H A mem run) tt (l, (k, tt)) tt r) (fact 𝓤 (r ≡ sourceAt l k))
   code-of l k r = exE 𝓤 _ (λ ws. snd∗ 𝓤 (sem 𝓤 H A (lasts code-at.ended tt (l, (k, tt)) ws)) (fact 𝓤 (r ≡ sourceAt l k)))
 
-  left-of : (c r : ℕ) → ent 𝓤 (ensured 𝓤 H A left.ended (left.clauses 𝓤 H A mem run) tt (c, tt) tt r) (fact 𝓤 ((r ≡ leftOf c) × (r < 64)))
-  left-of c r = exE 𝓤 _ (λ ws. snd∗ 𝓤 (sem 𝓤 H A (lasts left.ended tt (c, tt) ws)) (fact 𝓤 ((r ≡ leftOf c) × (r < 64))))
+  left-of : (c r : ℕ) → ent 𝓤 (ensured 𝓤 H A left.ended (left.clauses 𝓤 H A mem run) tt (c, tt) tt r) (fact 𝓤 ((r ≡ leftOf c) × (r < mostPoints)))
+  left-of c r = exE 𝓤 _ (λ ws. snd∗ 𝓤 (sem 𝓤 H A (lasts left.ended tt (c, tt) ws)) (fact 𝓤 ((r ≡ leftOf c) × (r < mostPoints))))
 
-  right-of : (c r : ℕ) → ent 𝓤 (ensured 𝓤 H A right.ended (right.clauses 𝓤 H A mem run) tt (c, tt) tt r) (fact 𝓤 ((r ≡ rightOf c) × (r < 64)))
-  right-of c r = exE 𝓤 _ (λ ws. snd∗ 𝓤 (sem 𝓤 H A (lasts right.ended tt (c, tt) ws)) (fact 𝓤 ((r ≡ rightOf c) × (r < 64))))
+  right-of : (c r : ℕ) → ent 𝓤 (ensured 𝓤 H A right.ended (right.clauses 𝓤 H A mem run) tt (c, tt) tt r) (fact 𝓤 ((r ≡ rightOf c) × (r < mostPoints)))
+  right-of c r = exE 𝓤 _ (λ ws. snd∗ 𝓤 (sem 𝓤 H A (lasts right.ended tt (c, tt) ws)) (fact 𝓤 ((r ≡ rightOf c) × (r < mostPoints))))
 
   clear-of : (r : Point) → ent 𝓤 (ensured 𝓤 H A clear.ended (clear.clauses 𝓤 H A mem run) tt tt tt r) (fact 𝓤 (r ≡ cleared))
   clear-of r = exE 𝓤 _ (λ ws. snd∗ 𝓤 (sem 𝓤 H A (lasts clear.ended tt tt ws)) (fact 𝓤 (r ≡ cleared)))
@@ -133,7 +133,7 @@ module _ {M : Type 1} (𝓤 : URA M) (H : Heap 𝓤) (A : Atoms 𝓤) (W : Given
   abbrev to-code : Layout → Val → ℕ → CodeAt 𝓤 H A mem run .Ghost
   to-code l v k = ((tt, tt, tt, (l, (k, tt)), (v ∷ [], (vint w64 k ∷ [], tt))), tt)
 
-  goes-code : (l : Layout) (v : Val) (k : ℕ) → Is L.the-row l (v ∷ []) → k < 64 → ent 𝓤 (emp 𝓤) (CodeAt 𝓤 H A mem run .pre (to-code l v k))
+  goes-code : (l : Layout) (v : Val) (k : ℕ) → Is L.the-row l (v ∷ []) → k < mostPoints → ent 𝓤 (emp 𝓤) (CodeAt 𝓤 H A mem run .pre (to-code l v k))
   goes-code l v k tb h =
       qed W [] ∵ says ! h $ nothing ! $ owned ! usize (Is usize) (uint-makes 𝓤 H A W w64) k _ (refl, omega arith) $ fjoin ! $
       owned ! L.the-row (Is L.the-row) (LL.makes L.the-type L′.the-plain 𝓤 H A) l _ tb $ fjoin ! $ nothing ! $ done !
@@ -223,7 +223,7 @@ module _ {M : Type 1} (𝓤 : URA M) (H : Heap 𝓤) (A : Atoms 𝓤) (W : Given
   Nearer-wf : WellFounded Nearer
   Nearer-wf = InvImage·wf (λ (i : St). n - i .0) (Nat·lt-wfRel .wf)
 
-  module _ (full : t .result ≡ 0 → (length ys ≡ 64) × (length aa ≡ 64) × (length bs ≡ 64)) (tb : Is L.the-row t (v ∷ [])) (ro : Room P.the-row (length ys)) (ra : Room P.the-row (length aa)) (rb : Room P.the-row (length bs)) (𝓣 : Tables 𝓤 H) (known-bound : Triple 𝓤 (𝓣 .C #bound) (Bound 𝓤 H A mem run)) (known-code-at : Triple 𝓤 (𝓣 .C #code-at) (CodeAt 𝓤 H A mem run)) (known-left : Triple 𝓤 (𝓣 .C #left) (Left 𝓤 H A mem run)) (known-right : Triple 𝓤 (𝓣 .C #right) (Right 𝓤 H A mem run)) (known-clear : Triple 𝓤 (𝓣 .C #clear) (Clear 𝓤 H A mem run)) where
+  module _ (full : t .result ≡ 0 → (length ys ≡ mostPoints) × (length aa ≡ mostPoints) × (length bs ≡ mostPoints)) (tb : Is L.the-row t (v ∷ [])) (ro : Room P.the-row (length ys)) (ra : Room P.the-row (length aa)) (rb : Room P.the-row (length bs)) (𝓣 : Tables 𝓤 H) (known-bound : Triple 𝓤 (𝓣 .C #bound) (Bound 𝓤 H A mem run)) (known-code-at : Triple 𝓤 (𝓣 .C #code-at) (CodeAt 𝓤 H A mem run)) (known-left : Triple 𝓤 (𝓣 .C #left) (Left 𝓤 H A mem run)) (known-right : Triple 𝓤 (𝓣 .C #right) (Right 𝓤 H A mem run)) (known-clear : Triple 𝓤 (𝓣 .C #clear) (Clear 𝓤 H A mem run)) where
     abbrev fm : FmC 𝓤 H (W .laws) (𝓣 .C)
     fm = fmOf 𝓤 H (W .laws) 𝓣
 
@@ -246,7 +246,7 @@ module _ {M : Type 1} (𝓤 : URA M) (H : Heap 𝓤) (A : Atoms 𝓤) (W : Given
     sl₂ = sliceTy (tyRef (named 2) imm pt)
 
     -- what holds in a turn that fills an entry
-    sizes : (i : St) → i .0 < n → (length ys ≡ 64) × (length aa ≡ 64) × (length bs ≡ 64)
+    sizes : (i : St) → i .0 < n → (length ys ≡ mostPoints) × (length aa ≡ mostPoints) × (length bs ≡ mostPoints)
     sizes i less = full (bound-done t (i .0) less)
 
     inside : (i : St) → i .0 < n → i .0 < length ys
@@ -325,7 +325,7 @@ module _ {M : Type 1} (𝓤 : URA M) (H : Heap 𝓤) (A : Atoms 𝓤) (W : Given
       steps : (i : St) → i .0 < n → Sq W (Ctx (suc (i .0)) (i .0) (‵ (froom tyBool l₁₆ 0)) (tested i) (told i)) (runs (𝓣 .C) (𝓣 .Λ) En next-k (anyQ (Turned i)))
       unfolding afterTurn
       steps i less =
-          let small : i .0 < 64 = (let h = bound-le t in omega (arith, h)) in
+          let small : i .0 < mostPoints = (let h = bound-le t in omega (arith, h)) in
           assigns-last ! (bin ! (load ! (from ! (stop !)) (look ! 47 refl)) (lit ! tt) (record { fits = omega (arith, small) })) (from ! (stop !)) (store ! 47 refl (tt, record { fits = omega (arith, small) })) $
           forget ! 39 refl $ forget ! 45 refl $
           rewrite ! 0 (λ (m : ℕ). ‵ (fobs γ (codedHoleys P.the-row .code (heres P.the-row (made m))))) (sym (add-one (i .0))) refl $
@@ -339,7 +339,7 @@ module _ {M : Type 1} (𝓤 : URA M) (H : Heap 𝓤) (A : Atoms 𝓤) (W : Given
           use0 W (raw (Left 𝓤 H A mem run .pre (to-left 𝓤 H A W mem run c))) (goes-left 𝓤 H A W mem run c byte-wide) $
           calls-at ! fm (Left 𝓤 H A mem run) known-left (to-left 𝓤 H A W mem run c) (and-then ! (load ! (from ! (stop !)) (look ! 46 refl)) (no-more !)) (λ w.
           use1 W (later (some (λ (r : ℕ). (‵ ftrue ⊛ ‵ (usize .own r (w ∷ []))) ⊛ raw (ensured 𝓤 H A left.ended (left.clauses 𝓤 H A mem run) tt (c, tt) tt r)))) (id⊢ 𝓤 _) $ await ! tt $ pick ! (λ r.
-          split ! $ move ! (1 ∷ []) $ use1 W (raw (fact 𝓤 ((r ≡ leftOf c) × (r < 64)))) (left-of 𝓤 H A mem run c r) $ heard ! ((r ≡ leftOf c) × (r < 64)) (λ e. split ! $ drop ! $
+          split ! $ move ! (1 ∷ []) $ use1 W (raw (fact 𝓤 ((r ≡ leftOf c) × (r < mostPoints)))) (left-of 𝓤 H A mem run c r) $ heard ! ((r ≡ leftOf c) × (r < mostPoints)) (λ e. split ! $ drop ! $
           peeks ! usize (Is usize) (shows 𝓤 H A usize) r (w ∷ []) (λ is.
           land ! (from ! (stop !)) (init ! 44 refl (uint-lawful 𝓤 H A W w64 .typed r _ is .0)) $
           rewrite ! 44 (λ (z : Val). ‵ (fat fullShare word l₈ 0 z)) (ap only (is .0) ∙ ap (vint w64) (e .0)) refl $ drop ! $
@@ -371,7 +371,7 @@ module _ {M : Type 1} (𝓤 : URA M) (H : Heap 𝓤) (A : Atoms 𝓤) (W : Given
           use0 W (raw (Right 𝓤 H A mem run .pre (to-right 𝓤 H A W mem run c))) (goes-right 𝓤 H A W mem run c byte-wide) $
           calls-at ! fm (Right 𝓤 H A mem run) known-right (to-right 𝓤 H A W mem run c) (and-then ! (load ! (from ! (stop !)) (look ! 46 refl)) (no-more !)) (λ w.
           use1 W (later (some (λ (r : ℕ). (‵ ftrue ⊛ ‵ (usize .own r (w ∷ []))) ⊛ raw (ensured 𝓤 H A right.ended (right.clauses 𝓤 H A mem run) tt (c, tt) tt r)))) (id⊢ 𝓤 _) $ await ! tt $ pick ! (λ r.
-          split ! $ move ! (1 ∷ []) $ use1 W (raw (fact 𝓤 ((r ≡ rightOf c) × (r < 64)))) (right-of 𝓤 H A mem run c r) $ heard ! ((r ≡ rightOf c) × (r < 64)) (λ e. split ! $ drop ! $
+          split ! $ move ! (1 ∷ []) $ use1 W (raw (fact 𝓤 ((r ≡ rightOf c) × (r < mostPoints)))) (right-of 𝓤 H A mem run c r) $ heard ! ((r ≡ rightOf c) × (r < mostPoints)) (λ e. split ! $ drop ! $
           peeks ! usize (Is usize) (shows 𝓤 H A usize) r (w ∷ []) (λ is.
           land ! (from ! (stop !)) (init ! 42 refl (uint-lawful 𝓤 H A W w64 .typed r _ is .0)) $
           rewrite ! 42 (λ (z : Val). ‵ (fat fullShare word l₉ 0 z)) (ap only (is .0) ∙ ap (vint w64) (e .0)) refl $ drop ! $
@@ -416,10 +416,10 @@ module _ {M : Type 1} (𝓤 : URA M) (H : Heap 𝓤) (A : Atoms 𝓤) (W : Given
           forget ! 11 refl $ forget ! 13 refl $ forget ! 15 refl $ forget ! 27 refl $ steps i less)))))
 
       -- a turn that fills one entry
-      more : (i : St) → ltb (i .0) n ≡ true → Sq W (At i) (runs (𝓣 .C) (𝓣 .Λ) En mir.turn-1 (anyQ (Turned i)))
-      more i u =
+      stores : (i : St) → ltb (i .0) n ≡ true → Sq W (At i) (runs (𝓣 .C) (𝓣 .Λ) En mir.turn-1 (anyQ (Turned i)))
+      stores i u =
           let less : i .0 < n = ltb-true (i .0) n u in
-          let small : i .0 < 64 = (let h = bound-le t in omega (arith, h)) in
+          let small : i .0 < mostPoints = (let h = bound-le t in omega (arith, h)) in
           let c : ℕ = sourceAt t (i .0) in
           assigns ! (bin ! (load ! (from ! (stop !)) (look ! 47 refl)) (load ! (from ! (stop !)) (look ! 49 refl)) tt) (from ! (stop !)) (init ! 39 refl (tt, tt)) $
           rewrite ! 39 (λ (z : Bool). ‵ (fat fullShare tyBool l₁₀ 0 (vbool z))) u refl $
@@ -457,7 +457,7 @@ module _ {M : Type 1} (𝓤 : URA M) (H : Heap 𝓤) (A : Atoms 𝓤) (W : Given
           by ! (exits (made (i .0)) (ap made end ∙ fill-is ys aa bs t (λ h. full h .0) (sources-length t v tb)) (set-to-length ys elem (i .0)) ro tb)
 
       turns : (i : St) → Sq W (At i) (runs (𝓣 .C) (𝓣 .Λ) En mir.turn-1 (anyQ (Turned i)))
-      turns i = split-on (ltb (i .0) n) (more i) (over i)
+      turns i = split-on (ltb (i .0) n) (stores i) (over i)
 
       looping : (i : St) → Sq W (At i) (runs (𝓣 .C) (𝓣 .Λ) En mir.t-3 (atRet En Post))
       looping i = first ! $ blocks ! $ loops ! 𝓣 Nearer Nearer-wf At turns i
@@ -500,7 +500,7 @@ module _ {M : Type 1} (𝓤 : URA M) (H : Heap 𝓤) (A : Atoms 𝓤) (W : Given
   walks : Walks 𝓤 H A me.ended stayed (WpFn 𝓤 H (𝓣 .C) (𝓣 .Λ) code.function) (me.clauses 𝓤 H A mem run)
   walks = walked 𝓤 H A me.ended stayed (me.clauses 𝓤 H A mem run) (WpFn 𝓤 H (𝓣 .C) (𝓣 .Λ) code.function) (λ κs. (slice-vals, (slice-vals, (slice-vals, (LL.vals L.the-type L′.the-laws, tt)))))
       (λ κs. (mut-slice-tells (named 0) (κs .0) P.the-row, (shr-slice-tells (named 1) (κs .1 .0) P.the-row, (shr-slice-tells (named 2) (κs .1 .1 .0) P.the-row, (LL.tells L.the-type L′.the-laws, tt)))))
-      (λ κs qs bounds a g are. needs 𝓤 (a .1 .1 .1 .0 .result ≡ 0 → (length (now (a .0)) ≡ 64) × (length (now (a .1 .0)) ≡ 64) × (length (now (a .1 .1 .0)) ≡ 64)) _ (λ full.
+      (λ κs qs bounds a g are. needs 𝓤 (a .1 .1 .1 .0 .result ≡ 0 → (length (now (a .0)) ≡ mostPoints) × (length (now (a .1 .0)) ≡ mostPoints) × (length (now (a .1 .1 .0)) ≡ mostPoints)) _ (λ full.
       walk 𝓤 H A W mem run (κs .0) (κs .1 .0) (κs .1 .1 .0) (qs .0) (qs .1 .0) (qs .1 .1 .0) (a .0 .ptr .0) (a .0 .ptr .1) (a .1 .0 .ptr .0) (a .1 .0 .ptr .1) (a .1 .1 .0 .ptr .0) (a .1 .1 .0 .ptr .1) (a .0 .name) (a .1 .0 .name) (a .1 .1 .0 .name)
       (a .0 .now) (a .1 .0 .now) (a .1 .1 .0 .now) (a .1 .1 .1 .0) full (are .1 .1 .1 .0) (are .0 .0 .1) (are .1 .0 .0 .1) (are .1 .1 .0 .0 .1) 𝓣 known-bound known-code-at known-left known-right known-clear))
 

@@ -39,30 +39,31 @@ use denote.Triple.Spec.{Meets, tripleOf}
 use denote.Triple.Table.{entered, cited}
 use denote.Triple.Walked.{says, Stays, stay-none-slice, stay-none, gave-slice, walkOf, Walks, ends-at, walked, goes-none-slice, goes-none, goes-gave-slice, walk-meets}
 use denote.Exit.{yes}
-use Rattle.track.specs.declared.Point.{Point}
-use Rattle.track.specs.declared.Joined.{Joined}
-use Rattle.track.proofs.Point as P
-use Rattle.track.proofs.Joined as R
-use Rattle.track.proofs.Joined.Laws as R′
+use Rattle.plan.specs.Limit.{mostPoints}
 use Rattle.plan.specs.declared.Scanned.{Scanned}
 use Rattle.plan.specs.declared.Layout.{Layout}
 use Rattle.plan.specs.Planning.{RisingTags, firstTags, secondTags, planOf}
-use Rattle.track.specs.Track.{joinAnswer, joinTable}
-use Rattle.track.specs.Working.{scanOf, filledTo, answerOf}
-use Rattle.track.proofs.Says.{says-both}
-use Rattle.track.proofs.Together.{rising-seen, answer-is, table-is, sizes}
 use Rattle.plan.proofs.Scanned as B
 use Rattle.plan.proofs.Scanned.Laws as B′
 use Rattle.plan.proofs.Layout as O
 use Rattle.plan.proofs.Layout.Laws as O′
-use Rattle.track.proofs.scan as scan′
-use Rattle.track.proofs.scan.Symbol as scan-def
-use Rattle.track.proofs.scan.Symbol.{name as #scan}
-use Rattle.track.proofs.scan.Met as scan-thm
 use Rattle.plan.proofs.decide as plan′
 use Rattle.plan.proofs.decide.Symbol as plan-def
 use Rattle.plan.proofs.decide.Symbol.{name as #plan}
 use Rattle.plan.proofs.decide.Met as plan-thm
+use Rattle.track.specs.declared.Point.{Point}
+use Rattle.track.specs.declared.Joined.{Joined}
+use Rattle.track.specs.Track.{joinAnswer, joinTable}
+use Rattle.track.specs.Inner.{scanOf, filledTo, answerOf}
+use Rattle.track.proofs.Point as P
+use Rattle.track.proofs.Joined as R
+use Rattle.track.proofs.Joined.Laws as R′
+use Rattle.track.proofs.Says.{says-both}
+use Rattle.track.proofs.Together.{rising-seen, answer-is, table-is, sizes}
+use Rattle.track.proofs.scan as scan′
+use Rattle.track.proofs.scan.Symbol as scan-def
+use Rattle.track.proofs.scan.Symbol.{name as #scan}
+use Rattle.track.proofs.scan.Met as scan-thm
 use Rattle.track.proofs.fill as fill′
 use Rattle.track.proofs.fill.Symbol as fill-def
 use Rattle.track.proofs.fill.Symbol.{name as #fill}
@@ -81,10 +82,10 @@ abbrev stayed : Stays (me.ended .signature .params) (me.ended .kept)
 stayed = (stay-none-slice (0 ∷ []) tt (plain (λ _. P.the-row)) yes, (stay-none (λ _. usize) yes, (stay-none-slice (1 ∷ []) tt (plain (λ _. P.the-row)) yes, (stay-none (λ _. usize) yes, (gave-slice (2 ∷ []) tt (plain (λ _. P.the-row)), tt)))))
 
 abbrev Asks : Scanned → ℕ → Scanned → ℕ → Type 0
-Asks s n t m = (s .track ≡ true → (n ≤ 64) × RisingTags (firstTags n (s .pictures))) × (t .track ≡ true → (m ≤ 64) × RisingTags (secondTags m (t .pictures)))
+Asks s n t m = (s .track ≡ true → (n ≤ mostPoints) × RisingTags (firstTags n (s .pictures))) × (t .track ≡ true → (m ≤ mostPoints) × RisingTags (secondTags m (t .pictures)))
 
 abbrev Sizes : Layout → List Point → List Point → List Point → Type 0
-Sizes l o a b = l .result ≡ 0 → (length o ≡ 64) × (length a ≡ 64) × (length b ≡ 64)
+Sizes l o a b = l .result ≡ 0 → (length o ≡ mostPoints) × (length a ≡ mostPoints) × (length b ≡ mostPoints)
 
 -- ---- the callees' contracts, what each is asked, and what each says
 module _ {M : Type 1} (𝓤 : URA M) (H : Heap 𝓤) (A : Atoms 𝓤) (mem : Memory → SProp 𝓤) (run : Routine → Fun 𝓤) where
@@ -315,7 +316,7 @@ module _ {M : Type 1} (𝓤 : URA M) (H : Heap 𝓤) (A : Atoms 𝓤) (W : Given
       plans w₇ w₆ ib ia =
           assigns ! (of-opd ! (load ! (from ! (fld ! refl (stop !))) (look-in ! 20 (sub ! 1 refl (whole !))))) (from ! (stop !)) (init ! 12 refl (tt, record { fits = ro .0 })) $
           use0 W (raw (Plan 𝓤 H A mem run .pre (to-plan 𝓤 H A W mem run seen-a seen-b n m (length (xo .now)) w₆ w₇)))
-          (goes-plan 𝓤 H A W mem run seen-a seen-b n m (length (xo .now)) w₆ w₇ (rising-seen 0 (xa .now) n, rising-seen 64 (xb .now) m) ia ib gn gm (ro .0)) $
+          (goes-plan 𝓤 H A W mem run seen-a seen-b n m (length (xo .now)) w₆ w₇ (rising-seen 0 (xa .now) n, rising-seen mostPoints (xb .now) m) ia ib gn gm (ro .0)) $
           calls-at ! fm (Plan 𝓤 H A mem run) known-plan (to-plan 𝓤 H A W mem run seen-a seen-b n m (length (xo .now)) w₆ w₇)
           (and-then ! (load ! (from ! (stop !)) (look ! 19 refl)) (and-then ! (load ! (from ! (stop !)) (look ! 27 refl)) (and-then ! (load ! (from ! (stop !)) (look ! 17 refl)) (and-then ! (load ! (from ! (stop !)) (look ! 23 refl)) (and-then ! (load ! (from ! (stop !)) (look ! 13 refl)) (no-more !)))))) (λ z.
           use1 W (later (some (λ (r : Layout). (‵ ftrue ⊛ ‵ (O.the-row .own r (z ∷ []))) ⊛ raw (ensured 𝓤 H A plan′.ended (plan′.clauses 𝓤 H A mem run) tt (seen-a, (n, (seen-b, (m, (length (xo .now), tt))))) tt r)))) (id⊢ 𝓤 _) $ await ! tt $ pick ! (λ r.

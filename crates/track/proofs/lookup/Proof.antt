@@ -44,27 +44,14 @@ use denote.Triple.Spec.{Meets, tripleOf}
 use denote.Triple.Table.{entered, cited}
 use denote.Triple.Walked.{says, Stays, stay-none-slice, stay-none, walkOf, Walks, ends-at, walked, goes-none-slice, goes-none, walk-meets}
 use denote.Exit.{yes}
-use Rattle.track.specs.Working.{unfilled, scanOf, heldOf, missingOf}
-use Rattle.track.specs.declared.Point.{Point}
-use Rattle.track.specs.declared.InForce.{InForce}
-use Rattle.track.proofs.Point as P
-use Rattle.track.proofs.Point.Laws as P′
-use Rattle.track.proofs.InForce as R
-use Rattle.track.proofs.InForce.Laws as R′
+use Rattle.plan.specs.Limit.{mostPoints}
 use Rattle.plan.specs.Seeking.{seekOf}
-use Rattle.track.specs.Track.{lookupAnswer}
 use Rattle.plan.specs.declared.Scanned.{Scanned}
-use Rattle.plan.specs.declared.Found.{Found}
-use Rattle.track.proofs.Size.{pointSize, offset-fits}
-use Rattle.track.proofs.Looking.{look-is, few, inside}
+use Rattle.plan.specs.declared.Sought.{Sought}
 use Rattle.plan.proofs.Scanned as B
 use Rattle.plan.proofs.Scanned.Laws as B′
-use Rattle.plan.proofs.Found as F
-use Rattle.plan.proofs.Found.Laws as F′
-use Rattle.track.proofs.scan as scan′
-use Rattle.track.proofs.scan.Symbol as scan-def
-use Rattle.track.proofs.scan.Symbol.{name as #scan}
-use Rattle.track.proofs.scan.Met as scan-thm
+use Rattle.plan.proofs.Sought as F
+use Rattle.plan.proofs.Sought.Laws as F′
 use Rattle.plan.proofs.seek as find′
 use Rattle.plan.proofs.seek.Symbol as find-def
 use Rattle.plan.proofs.seek.Symbol.{name as #find}
@@ -73,10 +60,24 @@ use Rattle.plan.proofs.is_found as is-found
 use Rattle.plan.proofs.is_found.Symbol as is-found-def
 use Rattle.plan.proofs.is_found.Symbol.{name as #is-found}
 use Rattle.plan.proofs.is_found.Met as is-found-thm
-use Rattle.plan.proofs.at_of as at-of
-use Rattle.plan.proofs.at_of.Symbol as at-of-def
-use Rattle.plan.proofs.at_of.Symbol.{name as #at-of}
-use Rattle.plan.proofs.at_of.Met as at-of-thm
+use Rattle.plan.proofs.entry_found as entry-found
+use Rattle.plan.proofs.entry_found.Symbol as entry-found-def
+use Rattle.plan.proofs.entry_found.Symbol.{name as #entry-found}
+use Rattle.plan.proofs.entry_found.Met as entry-found-thm
+use Rattle.track.specs.Inner.{unfilled, scanOf, heldOf, missingOf}
+use Rattle.track.specs.declared.Point.{Point}
+use Rattle.track.specs.declared.InForce.{InForce}
+use Rattle.track.specs.Track.{lookupAnswer}
+use Rattle.track.proofs.Point as P
+use Rattle.track.proofs.Point.Laws as P′
+use Rattle.track.proofs.InForce as R
+use Rattle.track.proofs.InForce.Laws as R′
+use Rattle.track.proofs.Size.{pointSize, offset-fits}
+use Rattle.track.proofs.Looking.{look-is, few, inside}
+use Rattle.track.proofs.scan as scan′
+use Rattle.track.proofs.scan.Symbol as scan-def
+use Rattle.track.proofs.scan.Symbol.{name as #scan}
+use Rattle.track.proofs.scan.Met as scan-thm
 use Rattle.track.proofs.held as held
 use Rattle.track.proofs.held.Symbol as held-def
 use Rattle.track.proofs.held.Symbol.{name as #held}
@@ -114,7 +115,7 @@ module _ {M : Type 1} (𝓤 : URA M) (H : Heap 𝓤) (A : Atoms 𝓤) (mem : Mem
   IsFound = tripleOf 𝓤 H A is-found.signature (is-found.spec 𝓤 H A mem run)
 
   abbrev AtOf : Contract 𝓤
-  AtOf = tripleOf 𝓤 H A at-of.signature (at-of.spec 𝓤 H A mem run)
+  AtOf = tripleOf 𝓤 H A entry-found.signature (entry-found.spec 𝓤 H A mem run)
 
   abbrev Held : Contract 𝓤
   Held = tripleOf 𝓤 H A held.signature (held.spec 𝓤 H A mem run)
@@ -125,19 +126,19 @@ module _ {M : Type 1} (𝓤 : URA M) (H : Heap 𝓤) (A : Atoms 𝓤) (mem : Mem
   scan-says : (κ : Lft) (x : RefT (List Point)) (n : ℕ) (r : Scanned) → ent 𝓤 (ensured 𝓤 H A scan′.ended (scan′.clauses 𝓤 H A mem run) (κ, tt) (x, (n, tt)) tt r) (fact 𝓤 (r ≡ scanOf (now x) n))
   scan-says κ x n r = exE 𝓤 _ (λ ws. snd∗ 𝓤 (sem 𝓤 H A (lasts scan′.ended (κ, tt) (x, (n, tt)) ws)) (fact 𝓤 (r ≡ scanOf (now x) n)))
 
-  find-says : (t : Scanned) (n : ℕ) (p : ℤ) (r : Found) → ent 𝓤 (ensured 𝓤 H A find′.ended (find′.clauses 𝓤 H A mem run) tt (t, (n, (p, tt))) tt r) (fact 𝓤 (r ≡ seekOf t n p))
+  find-says : (t : Scanned) (n : ℕ) (p : ℤ) (r : Sought) → ent 𝓤 (ensured 𝓤 H A find′.ended (find′.clauses 𝓤 H A mem run) tt (t, (n, (p, tt))) tt r) (fact 𝓤 (r ≡ seekOf t n p))
   find-says t n p r = exE 𝓤 _ (λ ws. snd∗ 𝓤 (sem 𝓤 H A (lasts find′.ended tt (t, (n, (p, tt))) ws)) (fact 𝓤 (r ≡ seekOf t n p)))
 
-  is-found-says : (f : Found) (r : Bool) → ent 𝓤 (ensured 𝓤 H A is-found.ended (is-found.clauses 𝓤 H A mem run) tt (f, tt) tt r) (fact 𝓤 (r ≡ f .found))
+  is-found-says : (f : Sought) (r : Bool) → ent 𝓤 (ensured 𝓤 H A is-found.ended (is-found.clauses 𝓤 H A mem run) tt (f, tt) tt r) (fact 𝓤 (r ≡ f .found))
   is-found-says f r = exE 𝓤 _ (λ ws. snd∗ 𝓤 (sem 𝓤 H A (lasts is-found.ended tt (f, tt) ws)) (fact 𝓤 (r ≡ f .found)))
 
-  at-says : (f : Found) (r : ℕ) → ent 𝓤 (ensured 𝓤 H A at-of.ended (at-of.clauses 𝓤 H A mem run) tt (f, tt) tt r) (fact 𝓤 (r ≡ f .at))
-  at-says f r = exE 𝓤 _ (λ ws. snd∗ 𝓤 (sem 𝓤 H A (lasts at-of.ended tt (f, tt) ws)) (fact 𝓤 (r ≡ f .at)))
+  at-says : (f : Sought) (r : ℕ) → ent 𝓤 (ensured 𝓤 H A entry-found.ended (entry-found.clauses 𝓤 H A mem run) tt (f, tt) tt r) (fact 𝓤 (r ≡ f .at))
+  at-says f r = exE 𝓤 _ (λ ws. snd∗ 𝓤 (sem 𝓤 H A (lasts entry-found.ended tt (f, tt) ws)) (fact 𝓤 (r ≡ f .at)))
 
   held-says : (q : Point) (r : InForce) → ent 𝓤 (ensured 𝓤 H A held.ended (held.clauses 𝓤 H A mem run) tt (q, tt) tt r) (fact 𝓤 (r ≡ heldOf q))
   held-says q r = exE 𝓤 _ (λ ws. snd∗ 𝓤 (sem 𝓤 H A (lasts held.ended tt (q, tt) ws)) (fact 𝓤 (r ≡ heldOf q)))
 
-  missing-says : (f : Found) (r : InForce) → ent 𝓤 (ensured 𝓤 H A missing.ended (missing.clauses 𝓤 H A mem run) tt (f, tt) tt r) (fact 𝓤 (r ≡ missingOf f))
+  missing-says : (f : Sought) (r : InForce) → ent 𝓤 (ensured 𝓤 H A missing.ended (missing.clauses 𝓤 H A mem run) tt (f, tt) tt r) (fact 𝓤 (r ≡ missingOf f))
   missing-says f r = exE 𝓤 _ (λ ws. snd∗ 𝓤 (sem 𝓤 H A (lasts missing.ended tt (f, tt) ws)) (fact 𝓤 (r ≡ missingOf f)))
 
 module _ {M : Type 1} (𝓤 : URA M) (H : Heap 𝓤) (A : Atoms 𝓤) (W : Given 𝓤 H A) (mem : Memory → SProp 𝓤) (run : Routine → Fun 𝓤) where
@@ -152,25 +153,25 @@ module _ {M : Type 1} (𝓤 : URA M) (H : Heap 𝓤) (A : Atoms 𝓤) (W : Given
   abbrev to-find : Scanned → Val → ℕ → ℤ → Find 𝓤 H A mem run .Ghost
   to-find t v n p = ((tt, tt, tt, (t, (n, (p, tt))), (v ∷ [], (vint w64 n ∷ [], (vint w32 (ofZ w32 p) ∷ [], tt)))), tt)
 
-  goes-find : (t : Scanned) (v : Val) (n : ℕ) (p : ℤ) → (t .track ≡ true → n ≤ 64) → Is B.the-row t (v ∷ []) → n < 2 ^ 64 → mag p < 2 ^ 31 → ent 𝓤 (emp 𝓤) (Find 𝓤 H A mem run .pre (to-find t v n p))
+  goes-find : (t : Scanned) (v : Val) (n : ℕ) (p : ℤ) → (t .track ≡ true → n ≤ mostPoints) → Is B.the-row t (v ∷ []) → n < 2 ^ 64 → mag p < 2 ^ 31 → ent 𝓤 (emp 𝓤) (Find 𝓤 H A mem run .pre (to-find t v n p))
   goes-find t v n p h it gn gp = qed W [] ∵ says ! h $ nothing ! $ owned ! i32 (Is i32) (sint-makes 𝓤 H A W w32) p _ (refl, gp) $ fjoin ! $ owned ! usize (Is usize) (uint-makes 𝓤 H A W w64) n _ (refl, gn) $ fjoin ! $ owned ! B.the-row (Is B.the-row) (LL.makes B.the-type B′.the-plain 𝓤 H A) t _ it $ fjoin ! $ nothing ! $ done !
 
-  abbrev to-is-found : Found → Val → IsFound 𝓤 H A mem run .Ghost
+  abbrev to-is-found : Sought → Val → IsFound 𝓤 H A mem run .Ghost
   to-is-found f v = ((tt, tt, tt, (f, tt), (v ∷ [], tt)), tt)
 
-  goes-is-found : (f : Found) (v : Val) → Is F.the-row f (v ∷ []) → ent 𝓤 (emp 𝓤) (IsFound 𝓤 H A mem run .pre (to-is-found f v))
+  goes-is-found : (f : Sought) (v : Val) → Is F.the-row f (v ∷ []) → ent 𝓤 (emp 𝓤) (IsFound 𝓤 H A mem run .pre (to-is-found f v))
   goes-is-found f v i = qed W [] ∵ nothing ! $ owned ! F.the-row (Is F.the-row) (LL.makes F.the-type F′.the-plain 𝓤 H A) f _ i $ fjoin ! $ nothing ! $ join ! $ nothing ! $ move ! (1 ∷ 0 ∷ []) $ done !
 
-  abbrev to-at : Found → Val → AtOf 𝓤 H A mem run .Ghost
+  abbrev to-at : Sought → Val → AtOf 𝓤 H A mem run .Ghost
   to-at f v = ((tt, tt, tt, (f, tt), (v ∷ [], tt)), tt)
 
-  goes-at : (f : Found) (v : Val) → Is F.the-row f (v ∷ []) → ent 𝓤 (emp 𝓤) (AtOf 𝓤 H A mem run .pre (to-at f v))
+  goes-at : (f : Sought) (v : Val) → Is F.the-row f (v ∷ []) → ent 𝓤 (emp 𝓤) (AtOf 𝓤 H A mem run .pre (to-at f v))
   goes-at f v i = qed W [] ∵ nothing ! $ owned ! F.the-row (Is F.the-row) (LL.makes F.the-type F′.the-plain 𝓤 H A) f _ i $ fjoin ! $ nothing ! $ join ! $ nothing ! $ move ! (1 ∷ 0 ∷ []) $ done !
 
-  abbrev to-missing : Found → Val → Missing 𝓤 H A mem run .Ghost
+  abbrev to-missing : Sought → Val → Missing 𝓤 H A mem run .Ghost
   to-missing f v = ((tt, tt, tt, (f, tt), (v ∷ [], tt)), tt)
 
-  goes-missing : (f : Found) (v : Val) → Is F.the-row f (v ∷ []) → ent 𝓤 (emp 𝓤) (Missing 𝓤 H A mem run .pre (to-missing f v))
+  goes-missing : (f : Sought) (v : Val) → Is F.the-row f (v ∷ []) → ent 𝓤 (emp 𝓤) (Missing 𝓤 H A mem run .pre (to-missing f v))
   goes-missing f v i = qed W [] ∵ nothing ! $ owned ! F.the-row (Is F.the-row) (LL.makes F.the-type F′.the-plain 𝓤 H A) f _ i $ fjoin ! $ nothing ! $ join ! $ nothing ! $ move ! (1 ∷ 0 ∷ []) $ done !
 
   abbrev to-held : Point → Held 𝓤 H A mem run .Ghost
@@ -211,7 +212,7 @@ module _ {M : Type 1} (𝓤 : URA M) (H : Heap 𝓤) (A : Atoms 𝓤) (W : Given
   abbrev seen : Scanned
   seen = scanOf ys n
 
-  abbrev f : Found
+  abbrev f : Sought
   f = seekOf seen n p
 
   -- by what `find` found
@@ -221,7 +222,7 @@ module _ {M : Type 1} (𝓤 : URA M) (H : Heap 𝓤) (A : Atoms 𝓤) (W : Given
   when-missing : f .found ≡ false → missingOf f ≡ lookupAnswer ys n p
   when-missing e = ap (λ (u : Bool). cond u (heldOf (getD ys (f .at) unfilled)) (missingOf f)) (sym e) ∙ look-is ys n p
 
-  module _ (room : Room P.the-row (length ys)) (𝓣 : Tables 𝓤 H) (known-scan : Triple 𝓤 (𝓣 .C #scan) (Scan 𝓤 H A mem run)) (known-find : Triple 𝓤 (𝓣 .C #find) (Find 𝓤 H A mem run)) (known-is-found : Triple 𝓤 (𝓣 .C #is-found) (IsFound 𝓤 H A mem run)) (known-at-of : Triple 𝓤 (𝓣 .C #at-of) (AtOf 𝓤 H A mem run)) (known-held : Triple 𝓤 (𝓣 .C #held) (Held 𝓤 H A mem run)) (known-missing : Triple 𝓤 (𝓣 .C #missing) (Missing 𝓤 H A mem run)) where
+  module _ (room : Room P.the-row (length ys)) (𝓣 : Tables 𝓤 H) (known-scan : Triple 𝓤 (𝓣 .C #scan) (Scan 𝓤 H A mem run)) (known-find : Triple 𝓤 (𝓣 .C #find) (Find 𝓤 H A mem run)) (known-is-found : Triple 𝓤 (𝓣 .C #is-found) (IsFound 𝓤 H A mem run)) (known-entry-found : Triple 𝓤 (𝓣 .C #entry-found) (AtOf 𝓤 H A mem run)) (known-held : Triple 𝓤 (𝓣 .C #held) (Held 𝓤 H A mem run)) (known-missing : Triple 𝓤 (𝓣 .C #missing) (Missing 𝓤 H A mem run)) where
     abbrev fm : FmC 𝓤 H (W .laws) (𝓣 .C)
     fm = fmOf 𝓤 H (W .laws) 𝓣
 
@@ -285,8 +286,8 @@ module _ {M : Type 1} (𝓤 : URA M) (H : Heap 𝓤) (A : Atoms 𝓤) (W : Given
           let within : f .at < length ys = inside ys n p yes-found in
           let fits : f .at * pointSize < 2 ^ 64 = offset-fits (f .at) (length ys) within (room .1) in
           use0 W (raw (AtOf 𝓤 H A mem run .pre (to-at 𝓤 H A W mem run f w₅))) (goes-at 𝓤 H A W mem run f w₅ is₅) $
-          calls-at ! fm (AtOf 𝓤 H A mem run) known-at-of (to-at 𝓤 H A W mem run f w₅) (and-then ! (load ! (from ! (stop !)) (look ! 17 refl)) (no-more !)) (λ w.
-          use1 W (later (some (λ (r : ℕ). (‵ ftrue ⊛ ‵ (usize .own r (w ∷ []))) ⊛ raw (ensured 𝓤 H A at-of.ended (at-of.clauses 𝓤 H A mem run) tt (f, tt) tt r)))) (id⊢ 𝓤 _) $ await ! tt $ pick ! (λ r.
+          calls-at ! fm (AtOf 𝓤 H A mem run) known-entry-found (to-at 𝓤 H A W mem run f w₅) (and-then ! (load ! (from ! (stop !)) (look ! 17 refl)) (no-more !)) (λ w.
+          use1 W (later (some (λ (r : ℕ). (‵ ftrue ⊛ ‵ (usize .own r (w ∷ []))) ⊛ raw (ensured 𝓤 H A entry-found.ended (entry-found.clauses 𝓤 H A mem run) tt (f, tt) tt r)))) (id⊢ 𝓤 _) $ await ! tt $ pick ! (λ r.
           split ! $ move ! (1 ∷ []) $ use1 W (raw (fact 𝓤 (r ≡ f .at))) (at-says 𝓤 H A mem run f r) $ heard ! (r ≡ f .at) (λ e. split ! $ drop ! $
           peeks ! usize (Is usize) (shows 𝓤 H A usize) r (w ∷ []) (λ ir.
           land ! (from ! (stop !)) (init ! 13 refl (uint-lawful 𝓤 H A W w64 .typed r _ ir .0)) $
@@ -332,11 +333,11 @@ module _ {M : Type 1} (𝓤 : URA M) (H : Heap 𝓤) (A : Atoms 𝓤) (W : Given
       finds w₄ is₄ =
           use0 W (raw (Find 𝓤 H A mem run .pre (to-find 𝓤 H A W mem run seen w₄ n p))) (goes-find 𝓤 H A W mem run seen w₄ n p (few ys n p) is₄ gn gp) $
           calls-at ! fm (Find 𝓤 H A mem run) known-find (to-find 𝓤 H A W mem run seen w₄ n p) (and-then ! (load ! (from ! (stop !)) (look ! 19 refl)) (and-then ! (load ! (from ! (stop !)) (look ! 23 refl)) (and-then ! (load ! (from ! (stop !)) (look ! 21 refl)) (no-more !)))) (λ z.
-          use1 W (later (some (λ (r : Found). (‵ ftrue ⊛ ‵ (F.the-row .own r (z ∷ []))) ⊛ raw (ensured 𝓤 H A find′.ended (find′.clauses 𝓤 H A mem run) tt (seen, (n, (p, tt))) tt r)))) (id⊢ 𝓤 _) $ await ! tt $ pick ! (λ r.
+          use1 W (later (some (λ (r : Sought). (‵ ftrue ⊛ ‵ (F.the-row .own r (z ∷ []))) ⊛ raw (ensured 𝓤 H A find′.ended (find′.clauses 𝓤 H A mem run) tt (seen, (n, (p, tt))) tt r)))) (id⊢ 𝓤 _) $ await ! tt $ pick ! (λ r.
           split ! $ move ! (1 ∷ []) $ use1 W (raw (fact 𝓤 (r ≡ f))) (find-says 𝓤 H A mem run seen n p r) $ heard ! (r ≡ f) (λ e. split ! $ drop ! $
           peeks ! F.the-row (Is F.the-row) (shows 𝓤 H A F.the-row) r (z ∷ []) (λ ir.
           land ! (from ! (stop !)) (init ! 17 refl (LL.lawful F.the-type F′.the-laws 𝓤 H A W .typed r _ ir .0)) $ drop ! $
-          asks z w₄ (subst (λ (u : Found). Is F.the-row u (z ∷ [])) e ir)))))
+          asks z w₄ (subst (λ (u : Sought). Is F.the-row u (z ∷ [])) e ir)))))
 
       -- from the call of `scan` on
       scans : Sq W (Ctx i₉ i₆ i₅ i₄) (runs (𝓣 .C) (𝓣 .Λ) En mir.t-1 (atRet En Post))
@@ -361,11 +362,11 @@ module _ {M : Type 1} (𝓤 : URA M) (H : Heap 𝓤) (A : Atoms 𝓤) (W : Given
         keep ! (0 ∷ 2 ∷ 4 ∷ 5 ∷ 6 ∷ 7 ∷ 8 ∷ 9 ∷ 10 ∷ 11 ∷ 12 ∷ 13 ∷ 14 ∷ 15 ∷ 16 ∷ 17 ∷ 18 ∷ 19 ∷ 20 ∷ 21 ∷ 22 ∷ 23 ∷ 24 ∷ 25 ∷ 26 ∷ 27 ∷ 28 ∷ 29 ∷ []) $
         scans l₀ l₁ l₂ l₃ l₄ l₅ l₆ l₇ l₈ l₉ l₁₀ l₁₁ l₁₂)))))))))))))
 
-module _ {M : Type 1} (𝓤 : URA M) (H : Heap 𝓤) (A : Atoms 𝓤) (W : Given 𝓤 H A) (mem : Memory → SProp 𝓤) (run : Routine → Fun 𝓤) (𝓣 : Tables 𝓤 H) (known-scan : Triple 𝓤 (𝓣 .C #scan) (Scan 𝓤 H A mem run)) (known-find : Triple 𝓤 (𝓣 .C #find) (Find 𝓤 H A mem run)) (known-is-found : Triple 𝓤 (𝓣 .C #is-found) (IsFound 𝓤 H A mem run)) (known-at-of : Triple 𝓤 (𝓣 .C #at-of) (AtOf 𝓤 H A mem run)) (known-held : Triple 𝓤 (𝓣 .C #held) (Held 𝓤 H A mem run)) (known-missing : Triple 𝓤 (𝓣 .C #missing) (Missing 𝓤 H A mem run)) where
+module _ {M : Type 1} (𝓤 : URA M) (H : Heap 𝓤) (A : Atoms 𝓤) (W : Given 𝓤 H A) (mem : Memory → SProp 𝓤) (run : Routine → Fun 𝓤) (𝓣 : Tables 𝓤 H) (known-scan : Triple 𝓤 (𝓣 .C #scan) (Scan 𝓤 H A mem run)) (known-find : Triple 𝓤 (𝓣 .C #find) (Find 𝓤 H A mem run)) (known-is-found : Triple 𝓤 (𝓣 .C #is-found) (IsFound 𝓤 H A mem run)) (known-entry-found : Triple 𝓤 (𝓣 .C #entry-found) (AtOf 𝓤 H A mem run)) (known-held : Triple 𝓤 (𝓣 .C #held) (Held 𝓤 H A mem run)) (known-missing : Triple 𝓤 (𝓣 .C #missing) (Missing 𝓤 H A mem run)) where
   walks : Walks 𝓤 H A me.ended stayed (WpFn 𝓤 H (𝓣 .C) (𝓣 .Λ) code.function) (me.clauses 𝓤 H A mem run)
   walks = walked 𝓤 H A me.ended stayed (me.clauses 𝓤 H A mem run) (WpFn 𝓤 H (𝓣 .C) (𝓣 .Λ) code.function) (λ κs. (slice-vals, (uint-vals w64, (sint-vals w32, tt)))) (λ κs. (shr-slice-tells (named 0) (κs .0) P.the-row, (uint-tells w64, (sint-tells w32, tt))))
       (λ κs qs bounds a g are. via 𝓤 _ (fst∗ 𝓤 _ (emp 𝓤))
-      (walk 𝓤 H A W mem run (κs .0) (qs .0) (a .0 .ptr .0) (a .0 .ptr .1) (a .0 .name) (a .0 .now) (a .1 .0) (a .1 .1 .0) (are .1 .0 .1) (are .1 .1 .0 .1) (are .0 .0 .1) 𝓣 known-scan known-find known-is-found known-at-of known-held known-missing))
+      (walk 𝓤 H A W mem run (κs .0) (qs .0) (a .0 .ptr .0) (a .0 .ptr .1) (a .0 .name) (a .0 .now) (a .1 .0) (a .1 .1 .0) (are .1 .0 .1) (are .1 .1 .0 .1) (are .0 .0 .1) 𝓣 known-scan known-find known-is-found known-entry-found known-held known-missing))
 
   meets : Meets 𝓤 H A me.signature (WpFn 𝓤 H (𝓣 .C) (𝓣 .Λ) code.function) (me.spec 𝓤 H A mem run)
   meets =
@@ -381,6 +382,6 @@ lookup-spec 𝓤 H 𝓜 𝓖 𝓡 =
     (cited 𝓤 H (Scan 𝓤 H (𝓖 .A) (𝓜 .mem) (𝓡 .run)) 𝓜 𝓡 code.env #scan scan-def.routine code.calls-track·scan (scan-thm.met 𝓤 H 𝓜 𝓖 𝓡))
     (cited 𝓤 H (Find 𝓤 H (𝓖 .A) (𝓜 .mem) (𝓡 .run)) 𝓜 𝓡 code.env #find find-def.routine code.calls-plan·seek (find-thm.met 𝓤 H 𝓜 𝓖 𝓡))
     (cited 𝓤 H (IsFound 𝓤 H (𝓖 .A) (𝓜 .mem) (𝓡 .run)) 𝓜 𝓡 code.env #is-found is-found-def.routine code.calls-plan·is-found (is-found-thm.met 𝓤 H 𝓜 𝓖 𝓡))
-    (cited 𝓤 H (AtOf 𝓤 H (𝓖 .A) (𝓜 .mem) (𝓡 .run)) 𝓜 𝓡 code.env #at-of at-of-def.routine code.calls-plan·at-of (at-of-thm.met 𝓤 H 𝓜 𝓖 𝓡))
+    (cited 𝓤 H (AtOf 𝓤 H (𝓖 .A) (𝓜 .mem) (𝓡 .run)) 𝓜 𝓡 code.env #entry-found entry-found-def.routine code.calls-plan·entry-found (entry-found-thm.met 𝓤 H 𝓜 𝓖 𝓡))
     (cited 𝓤 H (Held 𝓤 H (𝓖 .A) (𝓜 .mem) (𝓡 .run)) 𝓜 𝓡 code.env #held held-def.routine code.calls-track·held (held-thm.met 𝓤 H 𝓜 𝓖 𝓡))
     (cited 𝓤 H (Missing 𝓤 H (𝓖 .A) (𝓜 .mem) (𝓡 .run)) 𝓜 𝓡 code.env #missing missing-def.routine code.calls-track·missing (missing-thm.met 𝓤 H 𝓜 𝓖 𝓡)))

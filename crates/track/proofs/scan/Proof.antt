@@ -47,15 +47,9 @@ use denote.Triple.Spec.{Meets, tripleOf}
 use denote.Triple.Table.{entered, cited}
 use denote.Triple.Walked.{says, Stays, stay-none-slice, stay-none, walkOf, Walks, ends-at, walked, goes-none-slice, goes-none, walk-meets}
 use denote.Exit.{yes}
-use Rattle.track.specs.Working.{unfilled}
-use Rattle.track.specs.declared.Point.{Point}
-use Rattle.track.proofs.Point as P
-use Rattle.track.proofs.Point.Laws as P′
+use Rattle.plan.specs.Limit.{mostPoints}
 use Rattle.plan.specs.Scanning.{extentOf, begun}
-use Rattle.track.specs.Working.{notedPoint, scannedTo, scanOf}
-use Rattle.track.proofs.Size.{pointSize, offset-fits, split-on}
 use Rattle.plan.specs.declared.Scanned.{Scanned}
-use Rattle.track.proofs.Within.{extent-le}
 use Rattle.plan.proofs.Scanned as B
 use Rattle.plan.proofs.Scanned.Laws as B′
 use Rattle.plan.proofs.extent as extent
@@ -66,6 +60,13 @@ use Rattle.plan.proofs.begin as begin
 use Rattle.plan.proofs.begin.Symbol as begin-def
 use Rattle.plan.proofs.begin.Symbol.{name as #begin}
 use Rattle.plan.proofs.begin.Met as begin-thm
+use Rattle.track.specs.Inner.{unfilled}
+use Rattle.track.specs.declared.Point.{Point}
+use Rattle.track.specs.Inner.{notedPoint, scannedTo, scanOf}
+use Rattle.track.proofs.Point as P
+use Rattle.track.proofs.Point.Laws as P′
+use Rattle.track.proofs.Size.{pointSize, offset-fits, split-on}
+use Rattle.track.proofs.Within.{extent-le}
 use Rattle.track.proofs.note_point as step
 use Rattle.track.proofs.note_point.Symbol as step-def
 use Rattle.track.proofs.note_point.Symbol.{name as #step}
@@ -115,7 +116,7 @@ module _ {M : Type 1} (𝓤 : URA M) (H : Heap 𝓤) (A : Atoms 𝓤) (W : Given
   abbrev to-step : (t : Scanned) (v : Val) (i : ℕ) (p : Point) → Step 𝓤 H A mem run .Ghost
   to-step t v i p = ((tt, tt, tt, (t, (i, (p, tt))), (v ∷ [], (vint w64 i ∷ [], (LL.vals P.the-type P′.the-laws p, tt)))), tt)
 
-  goes-step : (t : Scanned) (v : Val) (i : ℕ) (p : Point) → Is B.the-row t (v ∷ []) → i < 64 → Is P.the-row p (LL.vals P.the-type P′.the-laws p) → ent 𝓤 (emp 𝓤) (Step 𝓤 H A mem run .pre (to-step t v i p))
+  goes-step : (t : Scanned) (v : Val) (i : ℕ) (p : Point) → Is B.the-row t (v ∷ []) → i < mostPoints → Is P.the-row p (LL.vals P.the-type P′.the-laws p) → ent 𝓤 (emp 𝓤) (Step 𝓤 H A mem run .pre (to-step t v i p))
   goes-step t v i p tb l pt =
       qed W [] ∵ says ! l $ nothing ! $ owned ! P.the-row (Is P.the-row) (LL.makes P.the-type P′.the-plain 𝓤 H A) p _ pt $ fjoin ! $
       owned ! usize (Is usize) (uint-makes 𝓤 H A W w64) i _ (refl, omega arith) $ fjoin ! $
@@ -197,12 +198,12 @@ module _ {M : Type 1} (𝓤 : URA M) (H : Heap 𝓤) (A : Atoms 𝓤) (W : Given
       Turned i = afterTurn 𝓤 H (Below 𝓤 H A Nearer At i) (afterBlock 𝓤 H (afterSeq 𝓤 H (Wp 𝓤 H (𝓣 .C) (𝓣 .Λ) En mir.t-6 (atReturn 𝓤 H En Post)) (atReturn 𝓤 H En Post)))
 
       -- a turn that looks at one point
-      more : (i : St) → ltb (i .0) e ≡ true → Sq W (At i) (runs (𝓣 .C) (𝓣 .Λ) En mir.turn-1 (anyQ (Turned i)))
+      notes : (i : St) → ltb (i .0) e ≡ true → Sq W (At i) (runs (𝓣 .C) (𝓣 .Λ) En mir.turn-1 (anyQ (Turned i)))
       unfolding afterTurn
-      more i t =
+      notes i t =
           let less : i .0 < e = ltb-true (i .0) e t in
           let inside : i .0 < length ys = (let h = extent-le (length ys) n in omega (arith, h .1)) in
-          let small : i .0 < 64 = (let h = extent-le (length ys) n in omega (arith, h .0)) in
+          let small : i .0 < mostPoints = (let h = extent-le (length ys) n in omega (arith, h .0)) in
           let fits : i .0 * pointSize < 2 ^ 64 = offset-fits (i .0) (length ys) inside (room .1) in
           assigns ! (bin ! (load ! (from ! (stop !)) (look ! 14 refl)) (load ! (from ! (stop !)) (look ! 18 refl)) tt) (from ! (stop !)) (init ! 10 refl (tt, tt)) $
           rewrite ! 10 (λ (u : Bool). ‵ (fat fullShare tyBool l₈ 0 (vbool u))) t refl $
@@ -247,7 +248,7 @@ module _ {M : Type 1} (𝓤 : URA M) (H : Heap 𝓤) (A : Atoms 𝓤) (W : Given
           by ! (exits (seen (i .0)) (i .1 .0) (ap seen end))
 
       turns : (i : St) → Sq W (At i) (runs (𝓣 .C) (𝓣 .Λ) En mir.turn-1 (anyQ (Turned i)))
-      turns i = split-on (ltb (i .0) e) (more i) (over i)
+      turns i = split-on (ltb (i .0) e) (notes i) (over i)
 
       -- the loop and what follows it
       looping : (i : St) → Sq W (At i) (runs (𝓣 .C) (𝓣 .Λ) En mir.t-5 (atRet En Post))

@@ -48,7 +48,8 @@ use denote.Triple.Spec.{Meets, tripleOf}
 use denote.Triple.Table.{entered, cited}
 use denote.Triple.Walked.{says, needs, Stays, stay-slice, stay-none, walkOf, Walks, ends-at, walked, goes-slice, goes-none, walk-meets}
 use denote.Exit.{yes}
-use Rattle.track.specs.Working.{unfilled, setTo, writeBound, entryOf, writtenTo}
+use Rattle.plan.specs.Limit.{mostPoints}
+use Rattle.track.specs.Inner.{unfilled, setTo, writeBound, entryOf, writtenTo}
 use Rattle.track.specs.declared.Point.{Point}
 use Rattle.track.specs.declared.Placing.{Placing}
 use Rattle.track.proofs.Size.{pointSize, offset-fits, split-on}
@@ -99,7 +100,7 @@ module _ {M : Type 1} (𝓤 : URA M) (H : Heap 𝓤) (A : Atoms 𝓤) (W : Given
   abbrev to-entry : Placing → Val → ℕ → Entry 𝓤 H A mem run .Ghost
   to-entry t v i = ((tt, tt, tt, (t, (i, tt)), (v ∷ [], (vint w64 i ∷ [], tt))), tt)
 
-  goes-entry : (t : Placing) (v : Val) (i : ℕ) → Is B.the-row t (v ∷ []) → i < 64 → ent 𝓤 (emp 𝓤) (Entry 𝓤 H A mem run .pre (to-entry t v i))
+  goes-entry : (t : Placing) (v : Val) (i : ℕ) → Is B.the-row t (v ∷ []) → i < mostPoints → ent 𝓤 (emp 𝓤) (Entry 𝓤 H A mem run .pre (to-entry t v i))
   goes-entry t v i tb l =
       qed W [] ∵ nothing ! $ owned ! usize (Is usize) (uint-makes 𝓤 H A W w64) i _ (refl, omega arith) $ fjoin ! $
       owned ! B.the-row (Is B.the-row) (LL.makes B.the-type B′.the-plain 𝓤 H A) t _ tb $ fjoin ! $ nothing ! $ join ! $ nothing ! $ move ! (1 ∷ 0 ∷ []) $ done !
@@ -148,7 +149,7 @@ module _ {M : Type 1} (𝓤 : URA M) (H : Heap 𝓤) (A : Atoms 𝓤) (W : Given
   Nearer-wf : WellFounded Nearer
   Nearer-wf = InvImage·wf (λ (i : St). n - i .0) (Nat·lt-wfRel .wf)
 
-  module _ (full : t .result ≡ 0 → length ys ≡ 64) (tb : Is B.the-row t (v ∷ [])) (room : Room P.the-row (length ys)) (𝓣 : Tables 𝓤 H) (known-bound : Triple 𝓤 (𝓣 .C #bound) (Bound 𝓤 H A mem run)) (known-entry : Triple 𝓤 (𝓣 .C #entry) (Entry 𝓤 H A mem run)) where
+  module _ (full : t .result ≡ 0 → length ys ≡ mostPoints) (tb : Is B.the-row t (v ∷ [])) (room : Room P.the-row (length ys)) (𝓣 : Tables 𝓤 H) (known-bound : Triple 𝓤 (𝓣 .C #bound) (Bound 𝓤 H A mem run)) (known-entry : Triple 𝓤 (𝓣 .C #entry) (Entry 𝓤 H A mem run)) where
     abbrev fm : FmC 𝓤 H (W .laws) (𝓣 .C)
     fm = fmOf 𝓤 H (W .laws) 𝓣
 
@@ -179,11 +180,11 @@ module _ {M : Type 1} (𝓤 : URA M) (H : Heap 𝓤) (A : Atoms 𝓤) (W : Given
       Turned i = afterTurn 𝓤 H (Below 𝓤 H A Nearer At i) (afterBlock 𝓤 H (afterSeq 𝓤 H (Wp 𝓤 H (𝓣 .C) (𝓣 .Λ) En mir.t-4 (atReturn 𝓤 H En Post)) (atReturn 𝓤 H En Post)))
 
       -- a turn that stores one point
-      more : (i : St) → ltb (i .0) n ≡ true → Sq W (At i) (runs (𝓣 .C) (𝓣 .Λ) En mir.turn-1 (anyQ (Turned i)))
+      stores : (i : St) → ltb (i .0) n ≡ true → Sq W (At i) (runs (𝓣 .C) (𝓣 .Λ) En mir.turn-1 (anyQ (Turned i)))
       unfolding afterTurn
-      more i u =
+      stores i u =
           let less : i .0 < n = ltb-true (i .0) n u in
-          let small : i .0 < 64 = (let h = write-le t in omega (arith, h)) in
+          let small : i .0 < mostPoints = (let h = write-le t in omega (arith, h)) in
           let inside : i .0 < length ys = (let f = full (write-done t (i .0) less) in omega (arith, f)) in
           let within : i .0 < length (made (i .0)) = subst (λ (m : ℕ). i .0 < m) (sym (set-to-length ys (entryOf t) (i .0))) inside in
           let fits : i .0 * pointSize < 2 ^ 64 = offset-fits (i .0) (length ys) inside (room .1) in
@@ -226,7 +227,7 @@ module _ {M : Type 1} (𝓤 : URA M) (H : Heap 𝓤) (A : Atoms 𝓤) (W : Given
           by ! (exits (made (i .0)) (ap made end) (set-to-length ys (entryOf t) (i .0)) room tb)
 
       turns : (i : St) → Sq W (At i) (runs (𝓣 .C) (𝓣 .Λ) En mir.turn-1 (anyQ (Turned i)))
-      turns i = split-on (ltb (i .0) n) (more i) (over i)
+      turns i = split-on (ltb (i .0) n) (stores i) (over i)
 
       looping : (i : St) → Sq W (At i) (runs (𝓣 .C) (𝓣 .Λ) En mir.t-3 (atRet En Post))
       looping i = first ! $ blocks ! $ loops ! 𝓣 Nearer Nearer-wf At turns i
@@ -261,7 +262,7 @@ module _ {M : Type 1} (𝓤 : URA M) (H : Heap 𝓤) (A : Atoms 𝓤) (W : Given
 module _ {M : Type 1} (𝓤 : URA M) (H : Heap 𝓤) (A : Atoms 𝓤) (W : Given 𝓤 H A) (mem : Memory → SProp 𝓤) (run : Routine → Fun 𝓤) (𝓣 : Tables 𝓤 H) (known-bound : Triple 𝓤 (𝓣 .C #bound) (Bound 𝓤 H A mem run)) (known-entry : Triple 𝓤 (𝓣 .C #entry) (Entry 𝓤 H A mem run)) where
   walks : Walks 𝓤 H A me.ended stayed (WpFn 𝓤 H (𝓣 .C) (𝓣 .Λ) code.function) (me.clauses 𝓤 H A mem run)
   walks = walked 𝓤 H A me.ended stayed (me.clauses 𝓤 H A mem run) (WpFn 𝓤 H (𝓣 .C) (𝓣 .Λ) code.function) (λ κs. (slice-vals, (LL.vals B.the-type B′.the-laws, tt))) (λ κs. (mut-slice-tells (named 0) (κs .0) P.the-row, (LL.tells B.the-type B′.the-laws, tt)))
-      (λ κs qs bounds a g are. needs 𝓤 (a .1 .0 .result ≡ 0 → length (now (a .0)) ≡ 64) _ (λ full.
+      (λ κs qs bounds a g are. needs 𝓤 (a .1 .0 .result ≡ 0 → length (now (a .0)) ≡ mostPoints) _ (λ full.
       walk 𝓤 H A W mem run (κs .0) (qs .0) (a .0 .ptr .0) (a .0 .ptr .1) (a .0 .name) (a .0 .now) (a .1 .0) full (are .1 .0) (are .0 .0 .1) 𝓣 known-bound known-entry))
 
   meets : Meets 𝓤 H A me.signature (WpFn 𝓤 H (𝓣 .C) (𝓣 .Λ) code.function) (me.spec 𝓤 H A mem run)

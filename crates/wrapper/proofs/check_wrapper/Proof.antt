@@ -1,15 +1,19 @@
 -- `wrapper::check_wrapper` meets its contract: the answer from byte i on is the answer from the start.
 use Prim.Native.Nat.{_≤_, _-_}
-use mathlib.Core.Path.{_≡_, refl, sym, ap, _∙_}
+use mathlib.Core.Path.{_≡_, refl, sym, _∙_}
 use native.Mathlib.Omega.{arith}
-use lib.ListN.{drop}
-use Rattle.wrapper.specs.Wrapper.{wrapperBytes, behind, wrapperOf}
-use Rattle.wrapper.proofs.Laws.{missing, differs, agrees}
+use Rattle.tree.specs.Bits.{bitsOf}
+use Rattle.tree.specs.Syntax.{read}
+use Rattle.tree.specs.Wrapper.{wrapperTable}
+use Rattle.record.specs.Name.{«wrapper»}
+use Rattle.syntax.specs.Wrapper.{wrapperBytes}
+use Rattle.wrapper.specs.Wrapper.{wrapperOf}
+use Rattle.wrapper.proofs.Laws.{fromByte, missing, differs, agrees}
 use Rattle.wrapper.proofs.check_wrapper.Statement.{statement}
 use Rattle.wrapper.proofs.check_wrapper.Tie as tie
 
 abbrev Inv-loop : tie.InvT-loop
-Inv-loop input i₀ i = (i ≤ 8) × (behind (drop i wrapperBytes) (drop i input) ≡ behind wrapperBytes input)
+Inv-loop input i₀ i = (i ≤ 8) × (wrapperOf (fromByte input i) ≡ wrapperOf (read (wrapperTable «wrapper» wrapperBytes) 0 (bitsOf input)))
 
 abbrev μ-loop : tie.MeasureT-loop
 μ-loop input i₀ i = 8 - i
@@ -20,7 +24,7 @@ loop-holds c = (omega arith, refl)
 returns : tie.Need-returns Inv-loop μ-loop
 returns c =
     let l = c .before .before .loop in
-    sym (ap wrapperOf (sym (l .inv .1) ∙ missing (c .before .before .before .before .args .input .now) (l .i) (omega arith) (omega arith)))
+    missing (c .before .before .before .before .args .input .now) (l .i) (omega arith) (omega arith) ∙ l .inv .1
 
 shared-slice-read-if2 : tie.Need-shared-slice-read-if2 Inv-loop μ-loop
 shared-slice-read-if2 c = omega arith
@@ -32,8 +36,7 @@ returns-2 : tie.Need-returns-2 Inv-loop μ-loop
 returns-2 c =
     let l = c .before .before .before .before .before .loop in
     let s = c .before .before .before .before .before .before .before .args .input .now in
-    let d = differs s (l .i) (omega arith) (omega arith) (λ e. c .if2 .taken (e ∙ sym (c .before .wrapper-byte .ensures))) in
-    sym (ap wrapperOf (sym (l .inv .1) ∙ d))
+    differs s (l .i) (omega arith) (omega arith) (c .before .before .shared-slice-known2 .given (l .i) .fits) (λ e. c .if2 .taken (e ∙ sym (c .before .wrapper-byte .ensures))) ∙ l .inv .1
 
 add-i : tie.Need-add-i Inv-loop μ-loop
 add-i c = omega arith
@@ -45,14 +48,14 @@ loop-again : tie.Need-loop-again Inv-loop μ-loop
 loop-again c =
     let l = c .before .before .before .before .before .loop in
     let s = c .before .before .before .before .before .before .before .args .input .now in
-    (omega arith, sym (agrees s (l .i) (omega arith) (omega arith) (c .if2 .left ∙ c .before .wrapper-byte .ensures)) ∙ l .inv .1)
+    (omega arith, sym (agrees s (l .i) (omega arith) (omega arith) (c .before .before .shared-slice-known2 .given (l .i) .fits) (c .if2 .left ∙ c .before .wrapper-byte .ensures)) ∙ l .inv .1)
 
 returns-3 : tie.Need-returns-3 Inv-loop μ-loop
-unfolding behind
+unfolding wrapperTable read
 returns-3 c =
     let l = c .before .loop in
     let e : l .i ≡ 8 = omega arith in
-    ap wrapperOf (rw e at (l .inv .1))
+    rw e at (l .inv .1)
 
 pub check-wrapper-spec : {M : Type 1} → statement M
 check-wrapper-spec =

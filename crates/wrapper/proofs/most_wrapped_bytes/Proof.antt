@@ -4,8 +4,8 @@ use mathlib.Core.Path.{sym, ap, _∙_}
 use lib.ListN.{length-append}
 use Rattle.syntax.specs.Element.{payload}
 use Rattle.syntax.specs.Largest.{largest}
+use Rattle.syntax.specs.Wrapper.{wrapperBytes}
 use Rattle.syntax.proofs.Largest.{largest-length}
-use Rattle.wrapper.specs.Wrapper.{wrapperBytes}
 use Rattle.wrapper.proofs.most_wrapped_bytes.Statement.{statement}
 use Rattle.wrapper.proofs.most_wrapped_bytes.Tie as tie
 

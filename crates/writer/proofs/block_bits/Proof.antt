@@ -3,7 +3,7 @@ use borrow.Author.Needs.{needs}
 use Prim.Native.Nat.{_≤_}
 use mathlib.Core.Path.{_≡_, ap, _∙_}
 use native.Mathlib.Omega.{arith}
-use Rattle.bits.specs.Codes.{zerosOf}
+use Rattle.tree.specs.Codes.{zerosOf}
 use Rattle.record.specs.Level.{level}
 use Rattle.writer.proofs.Room.{bytes-small}
 use Rattle.writer.proofs.block_bits.Statement.{statement}

@@ -4,9 +4,10 @@ use mathlib.Core.Path.{_≡_, refl, sym, _∙_}
 use native.Mathlib.Omega.{arith}
 use borrow.Author.Needs.{needs}
 use lib.ListN.{length, take, length-map}
-use Rattle.record.specs.Valid.{mostBlocks, allBlocks}
+use Rattle.tree.specs.Meaning.{sumOfWidths}
+use Rattle.record.specs.Blocks.{mostBlocks, allBlocks}
 use Rattle.record.proofs.Laws.{blockAt}
-use Rattle.syntax.specs.Element.{sumOfWidths, blockElements, blocksElements}
+use Rattle.syntax.specs.Element.{blockElements, blocksElements}
 use Rattle.writer.proofs.Room.{block-width, widths-more}
 use Rattle.writer.proofs.blocks_bits.Statement.{statement}
 use Rattle.writer.proofs.blocks_bits.Tie as tie

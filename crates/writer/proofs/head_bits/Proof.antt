@@ -4,9 +4,10 @@ use mathlib.Core.Path.{_≡_, _∙_, sym, ap}
 use mathlib.Core.Bool.{Bool, true, cond}
 use native.Mathlib.Omega.{arith}
 use Prim.Native.Nat.{_≤_, _+_, _*_}
-use Rattle.bits.specs.Codes.{zerosOf}
-use Rattle.bits.proofs.Elements.{zeros-few}
-use Rattle.syntax.specs.Element.{sumOfWidths, headElements}
+use Rattle.tree.specs.Codes.{zerosOf}
+use Rattle.tree.specs.Meaning.{sumOfWidths}
+use Rattle.tree.proofs.Elements.{zeros-few}
+use Rattle.syntax.specs.Element.{headElements}
 use Rattle.writer.proofs.Room.{head-width}
 use Rattle.writer.proofs.head_bits.Statement.{statement}
 use Rattle.writer.proofs.head_bits.Tie as tie

@@ -5,16 +5,15 @@ use mathlib.Core.Path.{_≡_, _∙_, ap}
 use mathlib.Core.List.{_++_}
 use native.Mathlib.Omega.{arith}
 use lib.ListN.{length-append}
-use Rattle.bits.specs.Bits.{code}
-use Rattle.bits.specs.Codes.{ueCode}
-use Rattle.bits.specs.Coding.{fieldsCode, totalWidth}
-use Rattle.bits.proofs.Bits.{length-code}
-use Rattle.bits.proofs.Elements.{length-fields}
+use Rattle.tree.specs.Bits.{code}
+use Rattle.tree.specs.Codes.{ueCode}
+use Rattle.tree.specs.Coding.{fieldsCode, totalWidth}
+use Rattle.tree.proofs.Bits.{length-code}
+use Rattle.tree.proofs.Elements.{length-fields}
 use Rattle.pen.proofs.Writing.{wrote-then, room-left}
 use Rattle.record.specs.Level.{level, codings, padding, levelOf, valuesOf}
-use Rattle.syntax.proofs.Blocks.{block-bits}
 use Rattle.writer.proofs.Room.{bytes-small}
-use Rattle.writer.proofs.Parts.{block-parts, padding-small}
+use Rattle.writer.proofs.Parts.{block-bits, block-parts, padding-small}
 use Rattle.writer.proofs.put_block.Statement.{statement}
 use Rattle.writer.proofs.put_block.Tie as tie
 

@@ -3,13 +3,14 @@ use Prim.Native.Nat.{_-_, _+_, _<_, _≤_}
 use mathlib.Core.Path.{_≡_, sym, _∙_}
 use native.Mathlib.Omega.{arith}
 use lib.ListN.{length, take, length-map}
+use Rattle.tree.specs.Meaning.{allBits, sumOfWidths}
+use Rattle.tree.proofs.Meaning.{length-all, all-bits-append}
 use Rattle.pen.specs.Writing.{Wrote}
 use Rattle.pen.proofs.Writing.{wrote-none, wrote-then, room-left}
-use Rattle.record.specs.Valid.{mostBlocks, allBlocks}
+use Rattle.record.specs.Blocks.{mostBlocks, allBlocks}
 use Rattle.record.proofs.Laws.{blockAt}
-use Rattle.record.proofs.Clauses.{valid-means}
-use Rattle.syntax.specs.Element.{allBits, sumOfWidths, blockElements, blocksElements}
-use Rattle.syntax.proofs.Rows.{length-all, bits-append}
+use Rattle.valid.proofs.Clauses.{valid-means}
+use Rattle.syntax.specs.Element.{blockElements, blocksElements}
 use Rattle.writer.proofs.Room.{elements-more, widths-more, widths-least, in-range-at}
 use Rattle.writer.proofs.put_blocks.Statement.{statement}
 use Rattle.writer.proofs.put_blocks.Tie as tie
@@ -63,7 +64,7 @@ loop-again c =
     let r = s .args .t3 in
     let h : l .j < length (r .places) = omega (arith, long s) in (
       omega arith,
-      rw (elements-more r (l .j) h, bits-append (blocksElements (take (l .j) (allBlocks r))) (blockElements (blockAt r (l .j)))) (wrote-then (l .inv .1) (c .before .before .put-block .ensures)),
+      rw (elements-more r (l .j) h, all-bits-append (blocksElements (take (l .j) (allBlocks r))) (blockElements (blockAt r (l .j)))) (wrote-then (l .inv .1) (c .before .before .put-block .ensures)),
     )
 
 same-length : tie.Need-same-length Inv-loop μ-loop

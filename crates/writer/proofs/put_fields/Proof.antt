@@ -10,8 +10,8 @@ use lib.Signed.{mag}
 use mir.Val.{toZ, ofZ, SFits}
 use mir.ValLaws.{toZ-ofZ}
 use mir.Syntax.{w16, w32}
-use Rattle.bits.specs.Bits.{code}
-use Rattle.bits.specs.Coding.{fieldsCode, totalWidth, holds, signed, complement}
+use Rattle.tree.specs.Bits.{code}
+use Rattle.tree.specs.Coding.{fieldsCode, totalWidth, holds, signed, complement}
 use Rattle.pen.proofs.Writing.{wrote-none, wrote-then, room-left}
 use Rattle.record.specs.declared.Block.the-variants.{Nothing}
 use Rattle.writer.proofs.Parts.{length-trims, level1-code, level2-code, level5-code, weight-held}

@@ -5,8 +5,8 @@ use mathlib.Core.Path.{_≡_, _∙_, ap}
 use mathlib.Core.Bool.{Bool}
 use native.Mathlib.Omega.{arith}
 use lib.ListN.{length}
-use Rattle.bits.specs.Codes.{ueCode}
-use Rattle.bits.proofs.Bits.{length-code}
+use Rattle.tree.specs.Codes.{ueCode}
+use Rattle.tree.proofs.Bits.{length-code}
 use Rattle.pen.proofs.Writing.{wrote-then, room-left}
 use Rattle.writer.specs.Writing.{flagCode}
 use Rattle.writer.proofs.Parts.{length-flag, flag-on, flag-off}

@@ -2,11 +2,10 @@
 use borrow.Author.Needs.{needs}
 use native.Mathlib.Omega.{arith}
 use lib.ListN.{length, length-append}
-use Rattle.bits.specs.Codes.{ueCode}
+use Rattle.tree.specs.Codes.{ueCode}
 use Rattle.pen.proofs.Writing.{start-sound, wrote-then, room-left}
-use Rattle.syntax.proofs.Head.{head-bits}
 use Rattle.writer.specs.Writing.{flagCode}
-use Rattle.writer.proofs.Parts.{head-length}
+use Rattle.writer.proofs.Parts.{head-bits, head-length}
 use Rattle.writer.proofs.put_head.Statement.{statement}
 use Rattle.writer.proofs.put_head.Tie as tie
 

@@ -1,7 +1,7 @@
 -- `writer::put_pair` meets its contract.
 use borrow.Author.Needs.{needs}
 use native.Mathlib.Omega.{arith}
-use Rattle.bits.proofs.Bits.{length-code}
+use Rattle.tree.proofs.Bits.{length-code}
 use Rattle.pen.proofs.Writing.{wrote-then, room-left}
 use Rattle.writer.proofs.put_pair.Statement.{statement}
 use Rattle.writer.proofs.put_pair.Tie as tie

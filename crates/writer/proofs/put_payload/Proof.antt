@@ -3,12 +3,13 @@ use borrow.Author.Needs.{needs}
 use Prim.Native.Nat.{_+_}
 use mathlib.Core.List.{_++_}
 use native.Mathlib.Omega.{arith}
+use Rattle.tree.specs.Meaning.{allBits, sumOfWidths}
+use Rattle.tree.proofs.Meaning.{length-all, all-bits-append, widths-append}
 use Rattle.pen.specs.Writing.{Wrote, startPen}
 use Rattle.pen.proofs.Writing.{wrote-then, room-left}
-use Rattle.record.specs.Valid.{blocks}
-use Rattle.syntax.specs.Element.{allBits, sumOfWidths, openElements, blocksElements, elements}
-use Rattle.syntax.proofs.Rows.{length-all, bits-append}
-use Rattle.syntax.proofs.Largest.{widths-append, widths-to-byte}
+use Rattle.record.specs.Blocks.{blocks}
+use Rattle.syntax.specs.Element.{openElements, blocksElements, elements}
+use Rattle.syntax.proofs.Largest.{widths-to-byte}
 use Rattle.writer.proofs.Parts.{byte-room, byte-wrote}
 use Rattle.writer.proofs.put_payload.Statement.{statement}
 use Rattle.writer.proofs.put_payload.Tie as tie
@@ -41,7 +42,7 @@ put-to-byte-requires c κs =
     let r = s .args .r in
     let es = openElements (r .refresh) (r .count) in
     let both : Wrote (s .args .out .now) startPen (allBits (es ++ blocksElements (blocks r))) (c .before .before .before .put-blocks .last .0) (c .before .before .before .put-blocks .result) =
-    rw (bits-append es (blocksElements (blocks r))) (wrote-then (c .before .before .before .before .before .before .before .put-open .ensures) (c .before .before .before .put-blocks .ensures)) in
+    rw (all-bits-append es (blocksElements (blocks r))) (wrote-then (c .before .before .before .before .before .before .before .put-open .ensures) (c .before .before .before .put-blocks .ensures)) in
     (both .sound, byte-room (es ++ blocksElements (blocks r)) both (s .pre .0))
 
 same-length : tie.Need-same-length
@@ -54,7 +55,7 @@ returns c =
     let r = s .args .r in
     let es = openElements (r .refresh) (r .count) in
     let both : Wrote (s .args .out .now) startPen (allBits (es ++ blocksElements (blocks r))) (c .before .before .before .before .before .before .put-blocks .last .0) (c .before .before .before .before .before .before .put-blocks .result) =
-    rw (bits-append es (blocksElements (blocks r))) (wrote-then (c .before .before .before .before .before .before .before .before .before .before .put-open .ensures) (c .before .before .before .before .before .before .put-blocks .ensures)) in
+    rw (all-bits-append es (blocksElements (blocks r))) (wrote-then (c .before .before .before .before .before .before .before .before .before .before .put-open .ensures) (c .before .before .before .before .before .before .put-blocks .ensures)) in
     byte-wrote (es ++ blocksElements (blocks r)) both (c .before .before .put-to-byte .ensures)
 
 pub put-payload-spec : {M : Type 1} → statement M

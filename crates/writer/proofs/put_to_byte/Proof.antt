@@ -3,7 +3,7 @@ use borrow.Author.Needs.{needs}
 use Prim.Native.Nat.{ℕ, _+_, _-_, _*_, _%_, _<_}
 use mathlib.Core.Path.{_≡_}
 use native.Mathlib.Omega.{arith}
-use Rattle.bits.specs.Reading.{toBoundary}
+use Rattle.tree.specs.Reading.{toBoundary}
 use Rattle.writer.proofs.put_to_byte.Statement.{statement}
 use Rattle.writer.proofs.put_to_byte.Tie as tie
 

@@ -3,7 +3,7 @@ use borrow.Author.Needs.{needs}
 use Prim.Native.Nat.{_+_}
 use native.Mathlib.Omega.{arith}
 use mathlib.Core.List.{_++_}
-use Rattle.bits.specs.Bits.{code}
+use Rattle.tree.specs.Bits.{code}
 use Rattle.pen.proofs.Writing.{wrote-then, room-left}
 use Rattle.writer.proofs.Parts.{length-pair}
 use lib.ListN.{length-append}

@@ -1,17 +1,19 @@
 -- `writer::write_data` meets its contract: the record is judged, then the room, and only then a byte is written.
 use borrow.Author.Needs.{needs}
-use Prim.Native.Nat.{_≤_}
+use Prim.Native.Nat.{_%_, _≤_}
 use mathlib.Core.Path.{_≡_, sym, _∙_}
 use mathlib.Core.Bool.{true}
 use native.Mathlib.Omega.{arith}
 use lib.ListN.{length}
-use Rattle.record.specs.Valid.{valid}
-use Rattle.record.proofs.Clauses.{valid-means}
+use Rattle.tree.specs.Meaning.{allBits}
+use Rattle.tree.proofs.Lists.{all-bytes}
+use Rattle.tree.proofs.Meaning.{length-all}
+use Rattle.output.proofs.Output.{done, short, bad}
+use Rattle.valid.specs.Valid.{valid}
+use Rattle.valid.proofs.Clauses.{valid-means}
 use Rattle.syntax.specs.Element.{elements, payload}
-use Rattle.syntax.proofs.Rows.{length-all}
 use Rattle.syntax.proofs.Exact.{whole}
-use Rattle.writer.proofs.Parts.{all-written}
-use Rattle.writer.proofs.Answers.{done, short, bad, bits-of-bytes, all-bytes}
+use Rattle.writer.proofs.Parts.{all-written, bits-of-bytes}
 use Rattle.writer.proofs.write_data.Statement.{statement}
 use Rattle.writer.proofs.write_data.Tie as tie
 
@@ -46,7 +48,8 @@ returns-2 c =
     let room : length (payload r) ≤ length (s .args .out .now) = omega (arith, n) in
     let d = done (payload r) (valid r) (s .args .out .now) (judged (c .before .before .before .before .before .before)) room in
     let bytes = all-bytes (put .last .0) (λ i. c .slice-known2 .given i .fits) in
-    (rw n (d .0), all-written (put .ensures) (whole r) (omega (arith, length-all (elements r), bits-of-bytes r)) bytes ∙ d .1)
+    let even : length (allBits (elements r)) % 8 ≡ 0 = omega (arith, whole r, length-all (elements r)) in
+    (rw n (d .0), all-written (put .ensures) even (omega (arith, length-all (elements r), bits-of-bytes r)) bytes ∙ d .1)
 
 returns-3 : tie.Need-returns-3
 returns-3 c =

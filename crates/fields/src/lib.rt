@@ -1,0 +1,139 @@
+// Reads the fields of a level at a bit position.
+use record::Block;
+use refusals::Refusal;
+ghost use mathlib.Core.Path.{_≡_};
+ghost use Prim.Native.Nat.{_+_, _*_, _<_, _≤_, _^_};
+ghost use lib.ListN.{length, drop, take};
+ghost use Rattle.tree.specs.Bits.{bitsOf, value};
+ghost use Rattle.tree.specs.Reading.{mapped};
+ghost use Rattle.tree.specs.Syntax.{row, read};
+ghost use Rattle.record.specs.Level.{fieldsOf};
+ghost use Rattle.syntax.specs.Data.{blockOf};
+ghost use Rattle.fields.specs.Step.{stepOf, refusedStep};
+
+// A block that was read and how many bits it took, or why there is none.
+pub enum Step {
+    Is { block: Block, width: usize },
+    Refused { why: Refusal },
+}
+
+pub fn refuse(number: u8) -> Step
+    ensures { λ r. ⌜ r ≡ refusedStep number ⌝ }
+{
+    Step::Refused {
+        why: Refusal { number },
+    }
+}
+
+// A field of at most 16 bits, which lies in the slice.
+fn field16(s: &[u8], at: usize, n: usize) -> u16
+    requires { ⌜ (at + n ≤ 8 * length (now s)) × (n ≤ 16) ⌝ }
+    ensures { λ r. ⌜ r ≡ value (take n (drop at (bitsOf (now (s .entry))))) ⌝ }
+{
+    bits::field(s, at, n) as u16
+}
+
+// The fields of level 1. Here and in the next two the slice's length is looked at once: n bits from `at` on lie in its first
+// (at + n + 7) / 8 bytes.
+fn fields1(s: &[u8], at: usize) -> Step
+    requires { ⌜ at < 2 ^ 60 ⌝ }
+    ensures { λ r. ⌜ r ≡ stepOf (mapped (blockOf 1) (read (row (fieldsOf 1)) at (drop at (bitsOf (now (s .entry)))))) ⌝ }
+{
+    if s.len() < (at + 43) / 8 {
+        return refuse(Refusal::PAST_END);
+    }
+    let p1 = at + 12;
+    let p2 = p1 + 12;
+    let min_pq = field16(s, at, 12);
+    let max_pq = field16(s, p1, 12);
+    let avg_pq = field16(s, p2, 12);
+    Step::Is {
+        block: Block::Level1 {
+            min_pq,
+            max_pq,
+            avg_pq,
+        },
+        width: 36,
+    }
+}
+
+// The fields of level 2.
+fn fields2(s: &[u8], at: usize) -> Step
+    requires { ⌜ at < 2 ^ 60 ⌝ }
+    ensures { λ r. ⌜ r ≡ stepOf (mapped (blockOf 2) (read (row (fieldsOf 2)) at (drop at (bitsOf (now (s .entry)))))) ⌝ }
+{
+    if s.len() < (at + 92) / 8 {
+        return refuse(Refusal::PAST_END);
+    }
+    let p1 = at + 12;
+    let p2 = p1 + 12;
+    let p3 = p2 + 12;
+    let p4 = p3 + 12;
+    let p5 = p4 + 12;
+    let p6 = p5 + 12;
+    let target_max_pq = field16(s, at, 12);
+    let trim_slope = field16(s, p1, 12);
+    let trim_offset = field16(s, p2, 12);
+    let trim_power = field16(s, p3, 12);
+    let trim_chroma_weight = field16(s, p4, 12);
+    let trim_saturation_gain = field16(s, p5, 12);
+    let ms_weight = bits::to_signed(bits::field(s, p6, 13), 13) as i16;
+    Step::Is {
+        block: Block::Level2 {
+            target_max_pq,
+            trim_slope,
+            trim_offset,
+            trim_power,
+            trim_chroma_weight,
+            trim_saturation_gain,
+            ms_weight,
+        },
+        width: 85,
+    }
+}
+
+// The fields of level 5.
+fn fields5(s: &[u8], at: usize) -> Step
+    requires { ⌜ at < 2 ^ 60 ⌝ }
+    ensures { λ r. ⌜ r ≡ stepOf (mapped (blockOf 5) (read (row (fieldsOf 5)) at (drop at (bitsOf (now (s .entry)))))) ⌝ }
+{
+    if s.len() < (at + 59) / 8 {
+        return refuse(Refusal::PAST_END);
+    }
+    let p1 = at + 13;
+    let p2 = p1 + 13;
+    let p3 = p2 + 13;
+    let left_offset = field16(s, at, 13);
+    let right_offset = field16(s, p1, 13);
+    let top_offset = field16(s, p2, 13);
+    let bottom_offset = field16(s, p3, 13);
+    Step::Is {
+        block: Block::Level5 {
+            left_offset,
+            right_offset,
+            top_offset,
+            bottom_offset,
+        },
+        width: 52,
+    }
+}
+
+// The fields of a level; a level that is not known has none.
+pub fn fields_of(s: &[u8], at: usize, level: u8) -> Step
+    requires { ⌜ at < 2 ^ 60 ⌝ }
+    ensures { λ r. ⌜ r ≡ stepOf (mapped (blockOf level) (read (row (fieldsOf level)) at (drop at (bitsOf (now (s .entry)))))) ⌝ }
+{
+    if level == 1 {
+        return fields1(s, at);
+    }
+    if level == 2 {
+        return fields2(s, at);
+    }
+    if level == 5 {
+        return fields5(s, at);
+    }
+    Step::Is {
+        block: Block::Nothing,
+        width: 0,
+    }
+}

@@ -1,0 +1,129 @@
+-- Why an input is refused: "given exactly when" and "the first failure decides", of the functions' own bytes. Then which inputs get 1
+-- and 12, and which refusals stand whatever follows.
+use Prim.Native.Nat.{ℕ, _<_, _≤_}
+use mathlib.Core.Path.{_≡_, refl, ap, sym, _∙_}
+use mathlib.Core.List.{List, _++_}
+use mathlib.Core.Bool.{Bool}
+use native.Mathlib.Omega.{arith}
+use lib.ListN.{length, take}
+use Rattle.refusals.specs.Refusals.{pastEnd, bytesRemain}
+use Rattle.tree.specs.Bits.{bitsOf, Bytes}
+use Rattle.tree.specs.Reading.{Fault, numberIn, Out, ok, no}
+use Rattle.tree.specs.Stands.{ToldAlike}
+use Rattle.record.specs.declared.Record.{Record}
+use Rattle.record.specs.Name.{Name}
+use Rattle.valid.specs.Valid.{Proper}
+use Rattle.syntax.specs.Data.{bareData}
+use Rattle.syntax.specs.Element.{payload}
+use Rattle.syntax.specs.Wrapper.{wrappedData, wrappedPayload}
+use Rattle.syntax.specs.Reason.{Reason, WrappedReason}
+use Rattle.syntax.specs.Limits.{refused, outcomeOf}
+use Rattle.syntax.specs.Largest.{readFarthest}
+use Rattle.syntax.proofs.Reasons.{the-reason-is-true, a-true-reason-is-given}
+use Rattle.syntax.proofs.Stands as bare
+use Rattle.syntax.proofs.Wrapped as wrapped
+use Rattle.reader.specs.Reading.{readingOf}
+use Rattle.promises.specs.Functions.{readBare, readWrapped}
+
+-- a result that is not 0 is the number of a fault
+fault-of : (o : Out Name Record) → (readingOf o .result ≡ 0 → ⊥) → (f : Fault Name) × (o ≡ no f) × (readingOf o .result ≡ numberIn f)
+fault-of (ok r n) h = absurd (h refl)
+fault-of (no f) h = (f, refl, refl)
+
+number-of : {o : Out Name Record} (f : Fault Name) → o ≡ no f → readingOf o .result ≡ numberIn f
+number-of f e = ap (λ (o : Out Name Record). readingOf o .result) e
+
+not-done : {n : ℕ} (k : ℕ) → 0 < k → n ≡ k → n ≡ 0 → ⊥
+not-done k h e z = omega arith
+
+-- what holds of a refusal by its number, of bare data and of wrapped data alike
+module _ (told : List Bool → Out Name Record) where
+  abbrev resultOf : List ℕ → ℕ
+  resultOf s = readingOf (told (bitsOf s)) .result
+
+  fault-in : (s : List ℕ) → (resultOf s ≡ 0 → ⊥) → (f : Fault Name) × (told (bitsOf s) ≡ no f) × (resultOf s ≡ numberIn f)
+  fault-in s h = fault-of (told (bitsOf s)) h
+
+  -- a number above 0 is that of a fault
+  fault-with : (k : ℕ) → 0 < k → (s : List ℕ) → resultOf s ≡ k → (f : Fault Name) × (told (bitsOf s) ≡ no f) × (numberIn f ≡ k)
+  fault-with k h s e = let x = fault-in s (not-done k h e) in (x .0, x .1, sym (x .2) ∙ e)
+
+  stands : ((s t : List ℕ) (f : Fault Name) → told (bitsOf s) ≡ no f → (numberIn f ≡ pastEnd → ⊥) → (g : Fault Name) × (told (bitsOf (s ++ t)) ≡ no g) × ToldAlike f g)
+      → (s t : List ℕ) → (resultOf s ≡ 0 → ⊥) → (resultOf s ≡ 1 → ⊥) → resultOf (s ++ t) ≡ resultOf s
+  stands law s t h k =
+      let x = fault-in s h in
+      let y = law s t (x .0) (x .1) (λ e. k (x .2 ∙ e)) in
+      number-of (y .0) (y .1) ∙ sym (y .2 .number) ∙ sym (x .2)
+
+  never-1 : (n : ℕ) → ((s : List ℕ) → n ≤ length s → (f : Fault Name) → told (bitsOf s) ≡ no f → numberIn f ≡ pastEnd → ⊥) → (s : List ℕ) → n ≤ length s → resultOf s ≡ 1 → ⊥
+  never-1 n law s l e = let x = fault-with 1 (omega arith) s e in law s l (x .0) (x .1) (x .2)
+
+  only-12 : (whole : Record → List ℕ)
+      → ((s : List ℕ) → Bytes s → (f : Fault Name) → told (bitsOf s) ≡ no f → numberIn f ≡ bytesRemain → (r : Record) × (t : List ℕ) × Proper r × (s ≡ whole r ++ t) × (0 < length t))
+      → (s : List ℕ) → Bytes s → resultOf s ≡ 12 → (r : Record) × (t : List ℕ) × Proper r × (s ≡ whole r ++ t) × (0 < length t)
+  only-12 whole law s h e = let x = fault-with 12 (omega arith) s e in law s h (x .0) (x .1) (x .2)
+
+-- ---- the reason: which elements stand before, each meeting its rule, which one fails, and how
+
+-- every refusal has a reason with its number
+pub a-refusal-has-its-reason : (s : List ℕ) → (readBare s .result ≡ 0 → ⊥) → (f : Fault Name) × Reason (bitsOf s) f × (readBare s .result ≡ numberIn f)
+a-refusal-has-its-reason s h = let x = fault-in bareData s h in (x .0, the-reason-is-true (bitsOf s) (x .0) (x .1), x .2)
+
+-- and where a reason holds, its number is given
+pub a-reason-gives-its-number : (s : List ℕ) (f : Fault Name) → Reason (bitsOf s) f → readBare s .result ≡ numberIn f
+a-reason-gives-its-number s f r = number-of f (a-true-reason-is-given (bitsOf s) f r)
+
+-- ---- a refusal other than 1 stands, whatever bytes follow
+
+pub a-refusal-other-than-1-stands : (s t : List ℕ) → (readBare s .result ≡ 0 → ⊥) → (readBare s .result ≡ 1 → ⊥) → readBare (s ++ t) .result ≡ readBare s .result
+a-refusal-other-than-1-stands = stands bareData bare.a-refusal-stands
+
+-- ---- 1: what is cut short
+
+-- every proper beginning of a payload gets 1
+pub every-proper-beginning-gets-1 : (r : Record) → Proper r → (s t : List ℕ) → payload r ≡ s ++ t → 0 < length t → readBare s .result ≡ 1
+every-proper-beginning-gets-1 r p s t e h = let x = bare.every-proper-beginning-gets-1 r p s t e h in number-of _ (x .2)
+
+-- bare data of 230 bytes or more never gets 1
+pub data-of-230-bytes-never-gets-1 : (s : List ℕ) → 230 ≤ length s → readBare s .result ≡ 1 → ⊥
+data-of-230-bytes-never-gets-1 = never-1 bareData 230 bare.bare-data-of-230-bytes-never-gets-1
+
+result-of : (o : Out Name Record) (n : ℕ) → outcomeOf o ≡ refused n → readingOf o .result ≡ n
+result-of (ok r m) n e = let z : _≡_ {A = ℕ} 0 1 = cc in absurd (omega arith)
+result-of (no f) n e = cc
+
+-- and no shorter length will do
+pub data-of-229-bytes-can-get-1 : (length readFarthest ≡ 230) × (readBare (take 229 readFarthest) .result ≡ 1)
+data-of-229-bytes-can-get-1 =
+    (bare.the-longest-that-gets-1 .0, result-of (bareData (bitsOf (take 229 readFarthest))) 1 (bare.the-longest-that-gets-1 .1))
+
+-- ---- 12: a payload with anything behind it, and only that
+
+pub a-payload-with-anything-behind-gets-12 : (r : Record) → Proper r → (t : List ℕ) → 0 < length t → readBare (payload r ++ t) .result ≡ 12
+a-payload-with-anything-behind-gets-12 r p t h = number-of _ (bare.a-payload-with-anything-behind-gets-12 r p t h)
+
+pub only-such-an-input-gets-12 : (s : List ℕ) → Bytes s → readBare s .result ≡ 12 → (r : Record) × (t : List ℕ) × Proper r × (s ≡ payload r ++ t) × (0 < length t)
+only-such-an-input-gets-12 = only-12 bareData payload bare.only-such-an-input-gets-12
+
+-- ---- the same of wrapped data
+
+pub a-wrapped-refusal-has-its-reason : (s : List ℕ) → (readWrapped s .result ≡ 0 → ⊥) → (f : Fault Name) × WrappedReason (bitsOf s) f × (readWrapped s .result ≡ numberIn f)
+a-wrapped-refusal-has-its-reason s h = let x = fault-in wrappedData s h in (x .0, wrapped.the-wrapped-reason-is-true (bitsOf s) (x .0) (x .1), x .2)
+
+pub a-wrapped-reason-gives-its-number : (s : List ℕ) (f : Fault Name) → WrappedReason (bitsOf s) f → readWrapped s .result ≡ numberIn f
+a-wrapped-reason-gives-its-number s f r = number-of f (wrapped.a-true-wrapped-reason-is-given (bitsOf s) f r)
+
+pub a-wrapped-refusal-other-than-1-stands : (s t : List ℕ) → (readWrapped s .result ≡ 0 → ⊥) → (readWrapped s .result ≡ 1 → ⊥) → readWrapped (s ++ t) .result ≡ readWrapped s .result
+a-wrapped-refusal-other-than-1-stands = stands wrappedData wrapped.a-refusal-of-wrapped-data-stands
+
+pub every-proper-beginning-of-a-wrapped-payload-gets-1 : (r : Record) → Proper r → (s t : List ℕ) → wrappedPayload r ≡ s ++ t → 0 < length t → readWrapped s .result ≡ 1
+every-proper-beginning-of-a-wrapped-payload-gets-1 r p s t e h = let x = wrapped.every-proper-beginning-of-a-wrapped-payload-gets-1 r p s t e h in number-of _ (x .2)
+
+pub wrapped-data-of-238-bytes-never-gets-1 : (s : List ℕ) → 238 ≤ length s → readWrapped s .result ≡ 1 → ⊥
+wrapped-data-of-238-bytes-never-gets-1 = never-1 wrappedData 238 wrapped.wrapped-data-of-238-bytes-never-gets-1
+
+pub a-wrapped-payload-with-anything-behind-gets-12 : (r : Record) → Proper r → (t : List ℕ) → 0 < length t → readWrapped (wrappedPayload r ++ t) .result ≡ 12
+a-wrapped-payload-with-anything-behind-gets-12 r p t h = number-of _ (wrapped.a-wrapped-payload-with-anything-behind-gets-12 r p t h)
+
+pub only-such-a-wrapped-input-gets-12 : (s : List ℕ) → Bytes s → readWrapped s .result ≡ 12 → (r : Record) × (t : List ℕ) × Proper r × (s ≡ wrappedPayload r ++ t) × (0 < length t)
+only-such-a-wrapped-input-gets-12 = only-12 wrappedData wrappedPayload wrapped.only-such-a-wrapped-input-gets-12

@@ -1,0 +1,71 @@
+-- 01, Refusal numbers: each is named here, and nowhere else.
+use Prim.Native.Nat.{ℕ}
+use Rattle.refusals.specs.declared.Refusal.{Refusal}
+
+-- what the code holds of a refusal: its number
+abbrev pub refusal : ℕ → Refusal
+refusal n = record { number = n }
+
+-- a bit or byte is needed past the end of the input
+abbrev pub pastEnd : ℕ
+pastEnd = 1
+
+-- a ue(v) code has a zero too many
+abbrev pub tooManyZeros : ℕ
+tooManyZeros = 2
+
+-- a wrapper byte differs
+abbrev pub wrapperDiffers : ℕ
+wrapperDiffers = 3
+
+-- app_identifier is not 1
+abbrev pub wrongIdentifier : ℕ
+wrongIdentifier = 4
+
+-- app_version is not 0
+abbrev pub wrongVersion : ℕ
+wrongVersion = 5
+
+-- num_ext_blocks is above its limit
+abbrev pub tooManyBlocks : ℕ
+tooManyBlocks = 6
+
+-- a zero bit is a one
+abbrev pub notZero : ℕ
+notZero = 7
+
+-- level is not 1, 2 or 5
+abbrev pub unknownLevel : ℕ
+unknownLevel = 8
+
+-- length is not the level's
+abbrev pub wrongLength : ℕ
+wrongLength = 9
+
+-- level 1 not in order min ≤ avg ≤ max
+abbrev pub notInOrder : ℕ
+notInOrder = 10
+
+-- second level 1, second level 5, 17th level 2, or a target_max_PQ already met
+abbrev pub repeated : ℕ
+repeated = 11
+
+-- bytes remain after the data
+abbrev pub bytesRemain : ℕ
+bytesRemain = 12
+
+-- output shorter than needed, or a result table that has not exactly 64 entries
+abbrev pub unfitOutput : ℕ
+unfitOutput = 13
+
+-- record to be written or placed is not valid, or block to be converted is not a level 2 block in range
+abbrev pub notValid : ℕ
+notValid = 14
+
+-- a join has more than 64 different numbers
+abbrev pub tooManyPoints : ℕ
+tooManyPoints = 15
+
+-- not a track
+abbrev pub notATrack : ℕ
+notATrack = 16

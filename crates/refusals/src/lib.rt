@@ -1,0 +1,40 @@
+// The refusal numbers of document 01, each named once. Nothing here knows a syntax.
+
+// Why something is refused. Made where the fault is found, and passed on as it is.
+pub struct Refusal {
+    pub number: u8,
+}
+
+impl Refusal {
+    pub const PAST_END: u8 = 1;
+
+    pub const TOO_MANY_ZEROS: u8 = 2;
+
+    pub const WRAPPER_DIFFERS: u8 = 3;
+
+    pub const WRONG_IDENTIFIER: u8 = 4;
+
+    pub const WRONG_VERSION: u8 = 5;
+
+    pub const TOO_MANY_BLOCKS: u8 = 6;
+
+    pub const NOT_ZERO: u8 = 7;
+
+    pub const UNKNOWN_LEVEL: u8 = 8;
+
+    pub const WRONG_LENGTH: u8 = 9;
+
+    pub const NOT_IN_ORDER: u8 = 10;
+
+    pub const REPEATED: u8 = 11;
+
+    pub const BYTES_REMAIN: u8 = 12;
+
+    pub const UNFIT_OUTPUT: u8 = 13;
+
+    pub const NOT_VALID: u8 = 14;
+
+    pub const TOO_MANY_POINTS: u8 = 15;
+
+    pub const NOT_A_TRACK: u8 = 16;
+}

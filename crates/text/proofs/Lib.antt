@@ -1,0 +1,6 @@
+pub mod Typing
+pub mod Lines
+pub mod Decimals
+pub mod Signs
+pub mod Different
+pub mod OneAnswer

@@ -1,0 +1,11 @@
+pub mod Bits
+pub mod Reading
+pub mod Coding
+pub mod Codes
+pub mod Syntax
+pub mod Meaning
+pub mod Renamed
+pub mod Parts
+pub mod Wrapper
+pub mod Reasons
+pub mod Stands

@@ -1,0 +1,4 @@
+pub mod Laws
+pub mod Clauses
+pub mod Made
+pub mod OneAnswer
