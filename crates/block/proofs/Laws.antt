@@ -35,7 +35,8 @@ use Rattle.syntax.proofs.Blocks.{block-only, valid-is-block}
 use Rattle.syntax.proofs.Steps.{read-known, read-own-length, read-in-order, read-not-in-order}
 use Rattle.fields.specs.Step.{stepOf, refusedStep}
 use Rattle.fields.specs.declared.Step.the-variants.{Is, Refused}
-use Rattle.block.specs.Parts.{stepBehind, stepTook, afterFields, body, afterLength}
+use Rattle.fields.specs.declared.Step.{Step}
+use Rattle.block.specs.Parts.{stepBehind, stepTook, afterFields, body, afterLength, stepOrdered}
 
 -- ---- how many bits are taken
 
@@ -246,20 +247,36 @@ module _ (start there n l at : ℕ) (s : List Bool) where
 
 -- the order of level 1, behind a whole block
 module _ (at : ℕ) (bits : List Bool) where
-  pub whole-no : (r : Refusal) → (f : Fault Name) × (read (wholeBlock at) at (drop at bits) ≡ no f) × (r ≡ refusal (numberIn f)) → Refused r ≡ stepOf (read block at (drop at bits))
+  whole-no : (r : Refusal) → (f : Fault Name) × (read (wholeBlock at) at (drop at bits) ≡ no f) × (r ≡ refusal (numberIn f)) → Refused r ≡ stepOf (read block at (drop at bits))
   whole-no = first-no block (read (wholeBlock at) at (drop at bits)) (λ b. orderRules at b >>= λ o. done b) at bits (read-whole at (drop at bits))
 
   module _ (b : Block) (n : ℕ) (e : read (wholeBlock at) at (drop at bits) ≡ ok b n) where
     ordered : stepBehind n (stepOf (read (orderRules at b >>= λ o. done b) (at + n) (drop (at + n) bits))) ≡ stepOf (read block at (drop at bits))
     ordered = second-on block (read (wholeBlock at) at (drop at bits)) (λ b. orderRules at b >>= λ o. done b) at bits (read-whole at (drop at bits)) b n e
 
-    pub in-order : inOrder b ≡ true → Is b n ≡ stepOf (read block at (drop at bits))
+    in-order : inOrder b ≡ true → Is b n ≡ stepOf (read block at (drop at bits))
     unfolding read
     in-order h =
         let o : read (orderRules at b >>= λ o. done b) (at + n) (drop (at + n) bits) ≡ ok b 0 = read-in-order (λ o. done b) (at + n) (drop (at + n) bits) at b h in
         ap (Is b) (sym (add-zero n)) ∙ ap (λ (x : Out Name Block). stepBehind n (stepOf x)) (sym o) ∙ ordered
 
-    pub out-of-order : inOrder b ≡ false → refusedStep notInOrder ≡ stepOf (read block at (drop at bits))
+    out-of-order : inOrder b ≡ false → refusedStep notInOrder ≡ stepOf (read block at (drop at bits))
     out-of-order h =
         let o = read-not-in-order (λ o. done b) (at + n) (drop (at + n) bits) at b h in
         ap refusedStep (sym (o .1)) ∙ ap (λ (x : Out Name Block). stepBehind n (stepOf x)) (sym (o .2)) ∙ ordered
+
+  -- by what was read of the whole block
+  module _ (x : Step) (q : x ≡ stepOf (read (wholeBlock at) at (drop at bits))) where
+    pub whole-ordered : stepOrdered x ≡ true → x ≡ stepOf (read block at (drop at bits))
+    whole-ordered h = q ∙ go (read (wholeBlock at) at (drop at bits)) refl (ap stepOrdered (sym q) ∙ h)
+      where
+        go : (o : Out Name Block) → read (wholeBlock at) at (drop at bits) ≡ o → stepOrdered (stepOf o) ≡ true → stepOf o ≡ stepOf (read block at (drop at bits))
+        go (ok b n) e k = in-order b n e k
+        go (no f) e k = whole-no (refusal (numberIn f)) (f, e, refl)
+
+    pub whole-not-ordered : stepOrdered x ≡ false → refusedStep notInOrder ≡ stepOf (read block at (drop at bits))
+    whole-not-ordered h = go (read (wholeBlock at) at (drop at bits)) refl (ap stepOrdered (sym q) ∙ h)
+      where
+        go : (o : Out Name Block) → read (wholeBlock at) at (drop at bits) ≡ o → stepOrdered (stepOf o) ≡ false → refusedStep notInOrder ≡ stepOf (read block at (drop at bits))
+        go (ok b n) e k = out-of-order b n e k
+        go (no f) e k = let z : _≡_ {A = ℕ} 0 1 = cc in absurd (omega arith)

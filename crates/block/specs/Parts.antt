@@ -1,11 +1,13 @@
 -- An answer behind bits that are taken already, and the parts of a block's table that some functions read.
 use Prim.Native.Nat.{ℕ, _+_}
+use mathlib.Core.Bool.{Bool, true}
 use lib.IntN.{ℤ}
 use Rattle.tree.specs.Coding.{unsigned, fixed, natural}
 use Rattle.tree.specs.Syntax.{Syntax, done, position, must, any, zeroBits, _>>=_}
 use Rattle.record.specs.declared.Block.{Block}
 use Rattle.record.specs.Name.{Name, «ext_block_level», «ext_dm_alignment_zero_bit»}
 use Rattle.record.specs.Level.{padding}
+use Rattle.record.specs.Blocks.{inOrder}
 use Rattle.syntax.specs.Data.{knownRule, lengthRule, content}
 use Rattle.fields.specs.declared.Step.{Step}
 use Rattle.fields.specs.declared.Step.the-variants.{Is, Refused}
@@ -19,6 +21,11 @@ stepBehind n (Refused r) = Refused r
 abbrev pub stepTook : Step → ℕ
 stepTook (Is b width) = width
 stepTook (Refused r) = 0
+
+-- a block is in the order of level 1; a refusal is passed on
+abbrev pub stepOrdered : Step → Bool
+stepOrdered (Is b width) = inOrder b
+stepOrdered (Refused r) = true
 
 -- what follows the fields of a block of level l: its zero bits
 abbrev pub afterFields : ℕ → Block → Syntax Name Block

@@ -11,7 +11,7 @@ ghost use Rattle.tree.specs.Bits.{bitsOf};
 ghost use Rattle.tree.specs.Syntax.{read};
 ghost use Rattle.syntax.specs.Data.{content, wholeBlock, block};
 ghost use Rattle.fields.specs.Step.{stepOf};
-ghost use Rattle.block.specs.Parts.{stepBehind, stepTook, afterFields, body, afterLength};
+ghost use Rattle.block.specs.Parts.{stepBehind, stepTook, stepOrdered, afterFields, body, afterLength};
 
 // An answer, behind n bits that are taken already.
 fn behind(n: usize, rest: Step) -> Step
@@ -94,19 +94,25 @@ fn whole_block(s: &[u8], at: usize) -> Step
     }
 }
 
+// Whether what was read is in the order of level 1; a refusal is passed on.
+fn is_ordered(step: Step) -> bool
+    ensures { λ r. ⌜ r ≡ stepOrdered step ⌝ }
+{
+    match step {
+        Step::Refused { .. } => true,
+        Step::Is { block, .. } => record::in_order(block),
+    }
+}
+
 // One ext_dm_data_block: all of it, then the order of level 1.
 pub fn read_block(s: &[u8], at: usize) -> Step
     requires { ⌜ at < 2 ^ 58 ⌝ }
     ensures { λ r. ⌜ r ≡ stepOf (read block at (drop at (bitsOf (now (s .entry))))) ⌝ }
 {
-    match whole_block(s, at) {
-        Step::Refused { why } => Step::Refused { why },
-        Step::Is { block, width } => {
-            if record::in_order(block) {
-                Step::Is { block, width }
-            } else {
-                fields::refuse(Refusal::NOT_IN_ORDER)
-            }
-        }
+    let whole = whole_block(s, at);
+    if is_ordered(whole) {
+        whole
+    } else {
+        fields::refuse(Refusal::NOT_IN_ORDER)
     }
 }
