@@ -4,7 +4,7 @@ use mathlib.Core.Path.{_≡_, refl, ap, sym, _∙_}
 use mathlib.Core.List.{List, map}
 use mathlib.Core.Bool.{Bool, true, false, cond}
 use native.Mathlib.Omega.{arith}
-use native.Mathlib.Nat.{add-zero}
+use native.Mathlib.Nat.{add-zero, add-assoc}
 use borrow.Author.Tests.{eq-eqb, ne-eqb}
 use lib.Dec.{eqb}
 use lib.IntN.{ℤ, pos}
@@ -14,7 +14,7 @@ use Rattle.refusals.specs.Refusals.{refusal, unknownLevel, wrongLength, notInOr
 use Rattle.refusals.specs.declared.Refusal.{Refusal}
 use Rattle.tree.specs.Reading.{Rule, Fault, numberIn, breaks, Out, ok, no, Reader, widened, andThen, mapped, u, ue}
 use Rattle.tree.specs.Coding.{unsigned, totalWidth, mostZeros, Descriptor, variable, fixed, natural, holdsIn, widthIn}
-use Rattle.tree.specs.Syntax.{Syntax, done, must, any, codingOf, row, zeroBits, read, _>>=_}
+use Rattle.tree.specs.Syntax.{Syntax, done, position, must, any, codingOf, row, zeroBits, read, _>>=_}
 use Rattle.tree.specs.Meaning.{Element, sumOfWidths, complete, Follow, Means}
 use Rattle.tree.proofs.Codes.{no-not-ok}
 use Rattle.tree.proofs.Elements.{codes-ue, length-ue, zeros-few}
@@ -24,6 +24,7 @@ use Rattle.tree.proofs.Spells.{apart-complete, any-only, must-only, done-only, 
 use Rattle.tree.proofs.Steps.{read-any}
 use Rattle.tree.proofs.Widths.{widths-fields, variable-width}
 use Rattle.tree.proofs.Accepted.{widths-zeros}
+use Rattle.bits.proofs.Reading.{widened-twice}
 use Rattle.record.specs.declared.Block.{Block}
 use Rattle.record.specs.declared.Block.the-variants.{Nothing, Level1, Level2, Level5}
 use Rattle.record.specs.Name.{Name, «ext_block_length», «ext_block_level», «ext_dm_alignment_zero_bit»}
@@ -35,8 +36,7 @@ use Rattle.syntax.proofs.Blocks.{block-only, valid-is-block}
 use Rattle.syntax.proofs.Steps.{read-known, read-own-length, read-in-order, read-not-in-order}
 use Rattle.fields.specs.Step.{stepOf, refusedStep}
 use Rattle.fields.specs.declared.Step.the-variants.{Is, Refused}
-use Rattle.fields.specs.declared.Step.{Step}
-use Rattle.block.specs.Parts.{stepBehind, stepTook, afterFields, body, afterLength, stepOrdered}
+use Rattle.block.specs.Parts.{stepBehind, stepTook, afterFields, contentFrom, body, afterLength}
 
 -- ---- how many bits are taken
 
@@ -121,51 +121,112 @@ module _ (l at : ℕ) (s : List Bool) where
           omega (arith, takes-few (totalWidth (codings l)) (row (fieldsOf l)) (takes-fields l) at s zs m q, few l)
       go (no f) q x = no-not-ok x
 
-takes-after-fields : (l : ℕ) (b : Block) → Takes (padding l) (afterFields l b)
-takes-after-fields l b at es a h =
-    let t = takes-then (padding l) 0 (zeroBits «ext_dm_alignment_zero_bit» (padding l)) (λ z. done b)
-    (λ there fs z f. omega (arith, ap sumOfWidths (zeros-only «ext_dm_alignment_zero_bit» (padding l) there fs f), widths-zeros (padding l) «ext_dm_alignment_zero_bit»)) (λ z. takes-done b) at es a h in
-    omega (arith, t)
+-- the order of level 1, in a block that began at `start`
+abbrev pub ordered : ℕ → Block → Syntax Name Block
+ordered start b = orderRules start b >>= λ o. done b
 
-pub few-zeros : (l : ℕ) (b : Block) (at : ℕ) (s : List Bool) → stepTook (stepOf (read (afterFields l b) at s)) ≤ contentBits
-few-zeros l b at s = omega (arith, took-few (padding l) (afterFields l b) (takes-after-fields l b) at s, few l)
-
-takes-content : (l : ℕ) → Takes contentBits (content l)
-unfolding content
-takes-content l at es b h =
-    let t = takes-then (totalWidth (codings l)) (padding l) (row (fieldsOf l)) (λ zs. afterFields l (blockOf l zs)) (takes-fields l) (λ zs. takes-after-fields l (blockOf l zs)) at es b h in
-    omega (arith, t, few l)
-
-pub takes-body : (start there : ℕ) (n l : ℤ) → Takes contentBits (body start there n l)
-takes-body start there n l =
-    takes-must contentBits (knownRule there l) (λ known. must (lengthRule start n (natural l)) >>= λ own. content (natural l))
-    (takes-must contentBits (lengthRule start n (natural l)) (λ own. content (natural l)) (takes-content (natural l)))
-
-pub takes-after-length : (start : ℕ) (n : ℤ) → Takes (8 + contentBits) (afterLength start n)
-unfolding Follow _>>=_
-takes-after-length start n at es b h =
-    takes-element contentBits 8 «ext_block_level» (fixed (unsigned 8)) (body start at n) (λ z q. omega arith) (takes-body start at n) at es b h
-
-takes-whole-block : (start : ℕ) → Takes blockBits (wholeBlock start)
-unfolding wholeBlock
-takes-whole-block start = takes-element (8 + contentBits) (2 * mostZeros + 1) «ext_block_length» variable (afterLength start) variable-width (takes-after-length start)
-
-takes-order : (start : ℕ) (b : Block) → Takes 0 (orderRules start b >>= λ o. done b)
+takes-order : (start : ℕ) (b : Block) → Takes 0 (ordered start b)
 unfolding _>>=_
 takes-order start Nothing = takes-done Nothing
 takes-order start (Level1 min max avg) = takes-must 0 (averageRule start min max avg) (λ o. done (Level1 min max avg)) (takes-done (Level1 min max avg))
 takes-order start (Level2 t s o p c g m) = takes-done (Level2 t s o p c g m)
 takes-order start (Level5 l r t b) = takes-done (Level5 l r t b)
 
--- a block takes few bits
-takes-block : Takes blockBits block
-unfolding block Follow _>>=_
-takes-block at es b h =
-    let t = takes-then blockBits 0 (wholeBlock at) (λ c. orderRules at c >>= λ o. done c) (takes-whole-block at) (takes-order at) at es b h in
+takes-after-fields : (start l : ℕ) (b : Block) → Takes (padding l) (afterFields start l b)
+takes-after-fields start l b at es a h =
+    let t = takes-then (padding l) 0 (zeroBits «ext_dm_alignment_zero_bit» (padding l)) (λ z. ordered start b)
+    (λ there fs z f. omega (arith, ap sumOfWidths (zeros-only «ext_dm_alignment_zero_bit» (padding l) there fs f), widths-zeros (padding l) «ext_dm_alignment_zero_bit»)) (λ z. takes-order start b) at es a h in
     omega (arith, t)
 
+pub few-zeros : (start l : ℕ) (b : Block) (at : ℕ) (s : List Bool) → stepTook (stepOf (read (afterFields start l b) at s)) ≤ contentBits
+few-zeros start l b at s = omega (arith, took-few (padding l) (afterFields start l b) (takes-after-fields start l b) at s, few l)
+
+takes-content : (start l : ℕ) → Takes contentBits (contentFrom start l)
+takes-content start l at es b h =
+    let t = takes-then (totalWidth (codings l)) (padding l) (row (fieldsOf l)) (λ zs. afterFields start l (blockOf l zs)) (takes-fields l) (λ zs. takes-after-fields start l (blockOf l zs)) at es b h in
+    omega (arith, t, few l)
+
+pub takes-body : (start there : ℕ) (n l : ℤ) → Takes contentBits (body start there n l)
+takes-body start there n l =
+    takes-must contentBits (knownRule there l) (λ known. must (lengthRule start n (natural l)) >>= λ own. contentFrom start (natural l))
+    (takes-must contentBits (lengthRule start n (natural l)) (λ own. contentFrom start (natural l)) (takes-content start (natural l)))
+
+pub takes-after-length : (start : ℕ) (n : ℤ) → Takes (8 + contentBits) (afterLength start n)
+unfolding Follow _>>=_
+takes-after-length start n at es b h =
+    takes-element contentBits 8 «ext_block_level» (fixed (unsigned 8)) (body start at n) (λ z q. omega arith) (takes-body start at n) at es b h
+
+-- ---- the order of level 1, right behind the zero bits
+
+module _ {A B : Type 0} (p : Syntax Name A) where
+  -- what follows, in other words
+  then-same : (g k : A → Syntax Name B) → ((a : A) (at : ℕ) (s : List Bool) → read (g a) at s ≡ read (k a) at s) → (at : ℕ) (s : List Bool) → read (p >>= g) at s ≡ read (p >>= k) at s
+  then-same g k h at s = read-then p g at s ∙ go (read p at s) ∙ sym (read-then p k at s)
+    where
+      go : (o : Out Name A) → andThen o (λ a. read (g a)) at s ≡ andThen o (λ a. read (k a)) at s
+      go (ok a n) = ap (widened n) (h a (at + n) (drop n s))
+      go (no f) = refl
+
+  -- three in a row
+  then-then : {C : Type 0} (g : A → Syntax Name B) (k : B → Syntax Name C) (at : ℕ) (s : List Bool) → read (p >>= g >>= k) at s ≡ read (p >>= λ a. g a >>= k) at s
+  then-then {C} g k at s =
+      read-then (p >>= g) k at s ∙ ap (λ (o : Out Name B). andThen o (λ b. read (k b)) at s) (read-then p g at s) ∙ go (read p at s) ∙ sym (read-then p (λ a. g a >>= k) at s)
+    where
+      deep : (n : ℕ) (o : Out Name B) → andThen (widened n o) (λ b. read (k b)) at s ≡ widened n (andThen o (λ b. read (k b)) (at + n) (drop n s))
+      deep n (ok b m) = rw (drop-drop m n s, add-assoc at n m) (sym (widened-twice n m (read (k b) (at + (n + m)) (drop (n + m) s))))
+      deep n (no f) = refl
+
+      go : (o : Out Name A) → andThen (andThen o (λ a. read (g a)) at s) (λ b. read (k b)) at s ≡ andThen o (λ a. read (g a >>= k)) at s
+      go (ok a n) = deep n (read (g a) (at + n) (drop n s)) ∙ ap (widened n) (sym (read-then (g a) k (at + n) (drop n s)))
+      go (no f) = refl
+
+module _ (start : ℕ) where
+  zeros-ordered : (l : ℕ) (b : Block) (at : ℕ) (s : List Bool) → read (zeroBits «ext_dm_alignment_zero_bit» (padding l) >>= (λ z. done b) >>= ordered start) at s ≡ read (afterFields start l b) at s
+  unfolding _>>=_
+  zeros-ordered l b at s = then-then (zeroBits «ext_dm_alignment_zero_bit» (padding l)) (λ z. done b) (ordered start) at s
+
+  content-ordered : (l at : ℕ) (s : List Bool) → read (content l >>= ordered start) at s ≡ read (contentFrom start l) at s
+  unfolding content
+  content-ordered l at s =
+      then-then (row (fieldsOf l)) (λ zs. zeroBits «ext_dm_alignment_zero_bit» (padding l) >>= λ z. done (blockOf l zs)) (ordered start) at s
+      ∙ then-same (row (fieldsOf l)) (λ zs. zeroBits «ext_dm_alignment_zero_bit» (padding l) >>= (λ z. done (blockOf l zs)) >>= ordered start) (λ zs. afterFields start l (blockOf l zs)) (λ zs. zeros-ordered l (blockOf l zs)) at s
+
+  -- the same parts, with the order behind the block
+  abbrev bodyThen : (there : ℕ) → (n l : ℤ) → Syntax Name Block
+  bodyThen there n l = must (knownRule there l) >>= λ known. must (lengthRule start n (natural l)) >>= λ own. content (natural l) >>= ordered start
+
+  body-ordered : (there : ℕ) (n l : ℤ) (at : ℕ) (s : List Bool) → read (bodyThen there n l) at s ≡ read (body start there n l) at s
+  body-ordered there n l =
+      then-same (must (knownRule there l)) (λ known. must (lengthRule start n (natural l)) >>= λ own. content (natural l) >>= ordered start) (λ known. must (lengthRule start n (natural l)) >>= λ own. contentFrom start (natural l))
+      (λ known. then-same (must (lengthRule start n (natural l))) (λ own. content (natural l) >>= ordered start) (λ own. contentFrom start (natural l)) (λ own. content-ordered (natural l)))
+
+  abbrev lengthThen : ℤ → Syntax Name Block
+  lengthThen n = position >>= λ there. any «ext_block_level» (fixed (unsigned 8)) >>= bodyThen there n
+
+  length-ordered : (n : ℤ) (at : ℕ) (s : List Bool) → read (lengthThen n) at s ≡ read (afterLength start n) at s
+  length-ordered n =
+      then-same position (λ there. any «ext_block_level» (fixed (unsigned 8)) >>= bodyThen there n) (λ there. any «ext_block_level» (fixed (unsigned 8)) >>= body start there n)
+      (λ there. then-same (any «ext_block_level» (fixed (unsigned 8))) (bodyThen there n) (body start there n) (body-ordered there n))
+
+here-block : (at : ℕ) (s : List Bool) → read block at s ≡ read (any «ext_block_length» variable >>= lengthThen at) at s
+unfolding read _>>=_ wholeBlock block
+here-block at s = refl
+
+-- a block as its functions read it
+abbrev blockFrom : ℕ → Syntax Name Block
+blockFrom start = any «ext_block_length» variable >>= afterLength start
+
+block-ordered : (at : ℕ) (s : List Bool) → read block at s ≡ read (blockFrom at) at s
+block-ordered at s = here-block at s ∙ then-same (any «ext_block_length» variable) (lengthThen at) (afterLength at) (length-ordered at) at s
+
+-- ---- what is accepted
+
+-- takes few bits
+takes-block : (start : ℕ) → Takes blockBits (blockFrom start)
+takes-block start = takes-element (8 + contentBits) (2 * mostZeros + 1) «ext_block_length» variable (afterLength start) variable-width (takes-after-length start)
+
 pub accepted-few : (at : ℕ) (s : List Bool) (b : Block) (n : ℕ) → read block at s ≡ ok b n → n ≤ blockBits
-accepted-few = takes-few blockBits block takes-block
+accepted-few at s b n e = takes-few blockBits (blockFrom at) (takes-block at) at s b n (sym (block-ordered at s) ∙ e)
 
 -- and is one
 pub accepted-is-block : (at : ℕ) (s : List Bool) (b : Block) (n : ℕ) → read block at s ≡ ok b n → isBlock b ≡ true
@@ -180,12 +241,11 @@ map-then : {A B C : Type 0} (h : A → B) (o : Out Name A) (k : B → Reader Nam
 map-then h (ok a n) k at s = refl
 map-then h (no f) k at s = refl
 
-pub read-closing : (l : ℕ) (b : Block) (at : ℕ) (s : List Bool) → read (afterFields l b) at s ≡ andThen (read (zeroBits «ext_dm_alignment_zero_bit» (padding l)) at s) (λ z. read (done b)) at s
-read-closing l b at s = read-then (zeroBits «ext_dm_alignment_zero_bit» (padding l)) (λ z. done b) at s
+pub read-closing : (start l : ℕ) (b : Block) (at : ℕ) (s : List Bool) → read (afterFields start l b) at s ≡ andThen (read (zeroBits «ext_dm_alignment_zero_bit» (padding l)) at s) (λ z. read (ordered start b)) at s
+read-closing start l b at s = read-then (zeroBits «ext_dm_alignment_zero_bit» (padding l)) (λ z. ordered start b) at s
 
-pub read-fields : (l at : ℕ) (s : List Bool) → read (content l) at s ≡ andThen (mapped (blockOf l) (read (row (fieldsOf l)) at s)) (λ b. read (afterFields l b)) at s
-unfolding content
-read-fields l at s = read-then (row (fieldsOf l)) (λ zs. afterFields l (blockOf l zs)) at s ∙ sym (map-then (blockOf l) (read (row (fieldsOf l)) at s) (λ b. read (afterFields l b)) at s)
+pub read-fields : (start l at : ℕ) (s : List Bool) → read (contentFrom start l) at s ≡ andThen (mapped (blockOf l) (read (row (fieldsOf l)) at s)) (λ b. read (afterFields start l b)) at s
+read-fields start l at s = read-then (row (fieldsOf l)) (λ zs. afterFields start l (blockOf l zs)) at s ∙ sym (map-then (blockOf l) (read (row (fieldsOf l)) at s) (λ b. read (afterFields start l b)) at s)
 
 here-level : (start : ℕ) (n : ℤ) (at : ℕ) (s : List Bool) → read (afterLength start n) at s ≡ read (any «ext_block_level» (fixed (unsigned 8)) >>= body start at n) at s
 unfolding read _>>=_
@@ -194,16 +254,8 @@ here-level start n at s = refl
 pub read-level : (start : ℕ) (n : ℤ) (at : ℕ) (s : List Bool) → read (afterLength start n) at s ≡ andThen (u «ext_block_level» 8 at s) (λ l. read (body start at n (pos l))) at s
 read-level start n at s = here-level start n at s ∙ read-any «ext_block_level» (fixed (unsigned 8)) (body start at n) at s ∙ map-then pos (u «ext_block_level» 8 at s) (λ l. read (body start at n l)) at s
 
-pub read-length : (start at : ℕ) (s : List Bool) → read (wholeBlock start) at s ≡ andThen (ue «ext_block_length» mostZeros at s) (λ n. read (afterLength start (pos n))) at s
-unfolding wholeBlock
-read-length start at s = read-any «ext_block_length» variable (afterLength start) at s ∙ map-then pos (ue «ext_block_length» mostZeros at s) (λ n. read (afterLength start n)) at s
-
-here-block : (at : ℕ) (s : List Bool) → read block at s ≡ read (wholeBlock at >>= λ b. orderRules at b >>= λ o. done b) at s
-unfolding read _>>=_ block
-here-block at s = refl
-
-read-whole : (at : ℕ) (s : List Bool) → read block at s ≡ andThen (read (wholeBlock at) at s) (λ b. read (orderRules at b >>= λ o. done b)) at s
-read-whole at s = here-block at s ∙ read-then (wholeBlock at) (λ b. orderRules at b >>= λ o. done b) at s
+pub read-length : (at : ℕ) (s : List Bool) → read block at s ≡ andThen (ue «ext_block_length» mostZeros at s) (λ n. read (afterLength at (pos n))) at s
+read-length at s = block-ordered at s ∙ read-any «ext_block_length» variable (afterLength at) at s ∙ map-then pos (ue «ext_block_length» mostZeros at s) (λ n. read (afterLength at n)) at s
 
 -- ---- answers
 
@@ -223,60 +275,34 @@ module _ {A : Type 0} (t : Syntax Name Block) (o : Out Name A) (g : A → Syntax
   second-on a n e = shifted n (read (g a) (at + n) (drop (at + n) bits)) ∙ sym (ap stepOf q ∙ rw (e, drop-drop n at bits) refl)
 
 -- behind the zero bits
-pub closed : (l : ℕ) (b : Block) (at : ℕ) (bits : List Bool) (n : ℕ) → read (zeroBits «ext_dm_alignment_zero_bit» (padding l)) at (drop at bits) ≡ ok tt n
-    → Is b n ≡ stepOf (read (afterFields l b) at (drop at bits))
-unfolding read
-closed l b at bits n e = sym (ap stepOf (read-closing l b at (drop at bits)) ∙ rw (e, add-zero n) refl)
+module _ (start l : ℕ) (b : Block) (at : ℕ) (bits : List Bool) (n : ℕ) (e : read (zeroBits «ext_dm_alignment_zero_bit» (padding l)) at (drop at bits) ≡ ok tt n) where
+  closing : stepBehind n (stepOf (read (ordered start b) (at + n) (drop (at + n) bits))) ≡ stepOf (read (afterFields start l b) at (drop at bits))
+  closing = second-on (afterFields start l b) (read (zeroBits «ext_dm_alignment_zero_bit» (padding l)) at (drop at bits)) (λ z. ordered start b) at bits (read-closing start l b at (drop at bits)) tt n e
+
+  pub in-order : inOrder b ≡ true → Is b n ≡ stepOf (read (afterFields start l b) at (drop at bits))
+  unfolding read
+  in-order h =
+      let o : read (ordered start b) (at + n) (drop (at + n) bits) ≡ ok b 0 = read-in-order (λ o. done b) (at + n) (drop (at + n) bits) start b h in
+      ap (Is b) (sym (add-zero n)) ∙ ap (λ (x : Out Name Block). stepBehind n (stepOf x)) (sym o) ∙ closing
+
+  pub out-of-order : inOrder b ≡ false → refusedStep notInOrder ≡ stepOf (read (afterFields start l b) at (drop at bits))
+  out-of-order h =
+      let o = read-not-in-order (λ o. done b) (at + n) (drop (at + n) bits) start b h in
+      ap refusedStep (sym (o .1)) ∙ ap (λ (x : Out Name Block). stepBehind n (stepOf x)) (sym (o .2)) ∙ closing
 
 -- the body: 8 before 9
 module _ (start there n l at : ℕ) (s : List Bool) where
   abbrev own : Unit {0} → Syntax Name Block
-  own z = must (lengthRule start (pos n) l) >>= λ own. content l
+  own z = must (lengthRule start (pos n) l) >>= λ own. contentFrom start l
 
   pub body-unknown : known l ≡ false → refusedStep unknownLevel ≡ stepOf (read (body start there (pos n) (pos l)) at s)
   body-unknown h = sym (ap stepOf (read-known own at s there l) ∙ rw h refl)
 
-  known-body : known l ≡ true → read (body start there (pos n) (pos l)) at s ≡ cond (eqb n (level l .bytes)) (read (content l) at s) (no (breaks (lengthRule start (pos n) l)))
-  known-body h = read-known own at s there l ∙ ap (λ (b : Bool). cond b (read (own tt) at s) (no (breaks (knownRule there (pos l))))) h ∙ read-own-length (λ z. content l) at s start n l
+  known-body : known l ≡ true → read (body start there (pos n) (pos l)) at s ≡ cond (eqb n (level l .bytes)) (read (contentFrom start l) at s) (no (breaks (lengthRule start (pos n) l)))
+  known-body h = read-known own at s there l ∙ ap (λ (b : Bool). cond b (read (own tt) at s) (no (breaks (knownRule there (pos l))))) h ∙ read-own-length (λ z. contentFrom start l) at s start n l
 
   pub body-length : known l ≡ true → (n ≡ level l .bytes → ⊥) → refusedStep wrongLength ≡ stepOf (read (body start there (pos n) (pos l)) at s)
   body-length h k = sym (ap stepOf (known-body h) ∙ rw (ne-eqb n (level l .bytes) k) refl)
 
-  pub body-is : known l ≡ true → n ≡ level l .bytes → stepOf (read (content l) at s) ≡ stepOf (read (body start there (pos n) (pos l)) at s)
+  pub body-is : known l ≡ true → n ≡ level l .bytes → stepOf (read (contentFrom start l) at s) ≡ stepOf (read (body start there (pos n) (pos l)) at s)
   body-is h k = sym (ap stepOf (known-body h) ∙ rw (eq-eqb n (level l .bytes) k) refl)
-
--- the order of level 1, behind a whole block
-module _ (at : ℕ) (bits : List Bool) where
-  whole-no : (r : Refusal) → (f : Fault Name) × (read (wholeBlock at) at (drop at bits) ≡ no f) × (r ≡ refusal (numberIn f)) → Refused r ≡ stepOf (read block at (drop at bits))
-  whole-no = first-no block (read (wholeBlock at) at (drop at bits)) (λ b. orderRules at b >>= λ o. done b) at bits (read-whole at (drop at bits))
-
-  module _ (b : Block) (n : ℕ) (e : read (wholeBlock at) at (drop at bits) ≡ ok b n) where
-    ordered : stepBehind n (stepOf (read (orderRules at b >>= λ o. done b) (at + n) (drop (at + n) bits))) ≡ stepOf (read block at (drop at bits))
-    ordered = second-on block (read (wholeBlock at) at (drop at bits)) (λ b. orderRules at b >>= λ o. done b) at bits (read-whole at (drop at bits)) b n e
-
-    in-order : inOrder b ≡ true → Is b n ≡ stepOf (read block at (drop at bits))
-    unfolding read
-    in-order h =
-        let o : read (orderRules at b >>= λ o. done b) (at + n) (drop (at + n) bits) ≡ ok b 0 = read-in-order (λ o. done b) (at + n) (drop (at + n) bits) at b h in
-        ap (Is b) (sym (add-zero n)) ∙ ap (λ (x : Out Name Block). stepBehind n (stepOf x)) (sym o) ∙ ordered
-
-    out-of-order : inOrder b ≡ false → refusedStep notInOrder ≡ stepOf (read block at (drop at bits))
-    out-of-order h =
-        let o = read-not-in-order (λ o. done b) (at + n) (drop (at + n) bits) at b h in
-        ap refusedStep (sym (o .1)) ∙ ap (λ (x : Out Name Block). stepBehind n (stepOf x)) (sym (o .2)) ∙ ordered
-
-  -- by what was read of the whole block
-  module _ (x : Step) (q : x ≡ stepOf (read (wholeBlock at) at (drop at bits))) where
-    pub whole-ordered : stepOrdered x ≡ true → x ≡ stepOf (read block at (drop at bits))
-    whole-ordered h = q ∙ go (read (wholeBlock at) at (drop at bits)) refl (ap stepOrdered (sym q) ∙ h)
-      where
-        go : (o : Out Name Block) → read (wholeBlock at) at (drop at bits) ≡ o → stepOrdered (stepOf o) ≡ true → stepOf o ≡ stepOf (read block at (drop at bits))
-        go (ok b n) e k = in-order b n e k
-        go (no f) e k = whole-no (refusal (numberIn f)) (f, e, refl)
-
-    pub whole-not-ordered : stepOrdered x ≡ false → refusedStep notInOrder ≡ stepOf (read block at (drop at bits))
-    whole-not-ordered h = go (read (wholeBlock at) at (drop at bits)) refl (ap stepOrdered (sym q) ∙ h)
-      where
-        go : (o : Out Name Block) → read (wholeBlock at) at (drop at bits) ≡ o → stepOrdered (stepOf o) ≡ false → refusedStep notInOrder ≡ stepOf (read block at (drop at bits))
-        go (ok b n) e k = out-of-order b n e k
-        go (no f) e k = let z : _≡_ {A = ℕ} 0 1 = cc in absurd (omega arith)

@@ -9,9 +9,9 @@ ghost use lib.IntN.{pos};
 ghost use lib.ListN.{length, drop};
 ghost use Rattle.tree.specs.Bits.{bitsOf};
 ghost use Rattle.tree.specs.Syntax.{read};
-ghost use Rattle.syntax.specs.Data.{content, wholeBlock, block};
+ghost use Rattle.syntax.specs.Data.{block};
 ghost use Rattle.fields.specs.Step.{stepOf};
-ghost use Rattle.block.specs.Parts.{stepBehind, stepTook, stepOrdered, afterFields, body, afterLength};
+ghost use Rattle.block.specs.Parts.{stepBehind, stepTook, afterFields, contentFrom, body, afterLength};
 
 // An answer, behind n bits that are taken already.
 fn behind(n: usize, rest: Step) -> Step
@@ -27,20 +27,26 @@ fn behind(n: usize, rest: Step) -> Step
     }
 }
 
-// What follows the fields of a block: its level's zero bits.
+// What follows the fields of a block, wherever it began: its level's zero bits, then the order of level 1.
 fn after_fields(s: &[u8], at: usize, level: u8, block: Block) -> Step
-    ensures { λ r. ⌜ r ≡ stepOf (read (afterFields level block) at (drop at (bitsOf (now (s .entry))))) ⌝ }
+    ensures { λ r. ⌜ ((start : ℕ) → r ≡ stepOf (read (afterFields start level block) at (drop at (bitsOf (now (s .entry)))))) ⌝ }
 {
     match bits::read_zeros(s, at, record::padding_of(level) as usize) {
         Number::Refused { why } => Step::Refused { why },
-        Number::Is { width, .. } => Step::Is { block, width },
+        Number::Is { width, .. } => {
+            if record::in_order(block) {
+                Step::Is { block, width }
+            } else {
+                fields::refuse(Refusal::NOT_IN_ORDER)
+            }
+        }
     }
 }
 
-// The fields of a level and what follows them.
+// The fields of a level and what follows them, wherever the block began.
 fn read_content(s: &[u8], at: usize, level: u8) -> Step
     requires { ⌜ at < 2 ^ 60 ⌝ }
-    ensures { λ r. ⌜ r ≡ stepOf (read (content level) at (drop at (bitsOf (now (s .entry))))) ⌝ }
+    ensures { λ r. ⌜ ((start : ℕ) → r ≡ stepOf (read (contentFrom start level) at (drop at (bitsOf (now (s .entry)))))) ⌝ }
 {
     match fields::fields_of(s, at, level) {
         Step::Refused { why } => Step::Refused { why },
@@ -80,10 +86,10 @@ fn after_length(s: &[u8], at: usize, size: u32) -> Step
     }
 }
 
-// A block's length, and what follows it.
-fn whole_block(s: &[u8], at: usize) -> Step
+// One ext_dm_data_block: its length, and what follows it.
+pub fn read_block(s: &[u8], at: usize) -> Step
     requires { ⌜ at < 2 ^ 58 ⌝ }
-    ensures { λ r. ⌜ r ≡ stepOf (read (wholeBlock at) at (drop at (bitsOf (now (s .entry))))) ⌝ }
+    ensures { λ r. ⌜ r ≡ stepOf (read block at (drop at (bitsOf (now (s .entry))))) ⌝ }
 {
     match bits::read_ue(s, at, bits::MOST_ZEROS) {
         Number::Refused { why } => Step::Refused { why },
@@ -91,28 +97,5 @@ fn whole_block(s: &[u8], at: usize) -> Step
             value: size,
             width: n,
         } => behind(n, after_length(s, at + n, size)),
-    }
-}
-
-// Whether what was read is in the order of level 1; a refusal is passed on.
-fn is_ordered(step: Step) -> bool
-    ensures { λ r. ⌜ r ≡ stepOrdered step ⌝ }
-{
-    match step {
-        Step::Refused { .. } => true,
-        Step::Is { block, .. } => record::in_order(block),
-    }
-}
-
-// One ext_dm_data_block: all of it, then the order of level 1.
-pub fn read_block(s: &[u8], at: usize) -> Step
-    requires { ⌜ at < 2 ^ 58 ⌝ }
-    ensures { λ r. ⌜ r ≡ stepOf (read block at (drop at (bitsOf (now (s .entry))))) ⌝ }
-{
-    let whole = whole_block(s, at);
-    if is_ordered(whole) {
-        whole
-    } else {
-        fields::refuse(Refusal::NOT_IN_ORDER)
     }
 }

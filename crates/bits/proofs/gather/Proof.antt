@@ -1,10 +1,11 @@
 -- `bits::gather` meets its contract: after k bits, v is the number that they are.
-use Prim.Native.Nat.{_≤_, _<_, _-_, _+_}
-use mathlib.Core.Path.{_≡_, refl}
-use mathlib.Core.Bool.{false}
+use Prim.Native.Nat.{ℕ, _≤_, _<_, _-_, _+_, _*_}
+use mathlib.Core.Path.{_≡_, _∙_, refl, ap}
+use mathlib.Core.List.{List}
+use mathlib.Core.Bool.{Bool, false}
 use native.Mathlib.Omega.{arith}
 use lib.ListN.{length, take, drop, getD}
-use Rattle.tree.specs.Bits.{bitsOf, value, valueFrom}
+use Rattle.tree.specs.Bits.{bitsOf, bit, value, valueFrom}
 use Rattle.tree.proofs.Bits.{length-rest, value-take-lt, bit-lt}
 use Rattle.bits.proofs.Reading.{value-bit}
 use Rattle.bits.proofs.gather.Statement.{statement}
@@ -19,6 +20,12 @@ abbrev μ-loop : tie.MeasureT-loop
 loop-holds : tie.Need-loop-holds Inv-loop μ-loop
 unfolding valueFrom
 loop-holds c = (omega arith, refl)
+
+-- one bit more
+gathered : (l : List Bool) (at skip k v b : ℕ) → k < length (drop (at + skip) l) → v ≡ value (take k (drop (at + skip) l)) → b ≡ bit (getD l (at + (skip + k)) false) → v * 2 + b ≡ value (take (k + 1) (drop (at + skip) l))
+gathered l at skip k v b h e f =
+    let g : at + (skip + k) ≡ at + skip + k = omega arith in
+    rw (value-bit l (at + skip) k h, e, f, g)
 
 -- fewer than 32 bits are gathered yet
 small : (c : tie.In-loop Inv-loop μ-loop) → c .before .loop .v < 2147483648
@@ -52,13 +59,13 @@ loop-again c =
     let a = c .before .before .before .before .args in
     let k = c .before .before .loop .k in
     let h : k < length (drop (a .at + a .skip) (bitsOf (a .s .now))) = omega (arith, length-rest (a .s .now) (a .at + a .skip)) in
-    let e : a .at + (a .skip + k) ≡ a .at + a .skip + k = omega arith in
-    (omega arith, cc (value-bit (bitsOf (a .s .now)) (a .at + a .skip) k h))
+    (omega arith, gathered (bitsOf (a .s .now)) (a .at) (a .skip) k (c .before .before .loop .v) (c .bit-at .result) h (c .before .before .loop .inv .1) (c .bit-at .ensures))
 
 returns : tie.Need-returns Inv-loop μ-loop
 returns c =
-    let e : c .before .loop .k ≡ c .before .before .before .args .n = omega arith in
-    cc
+    let a = c .before .before .before .args in
+    let e : c .before .loop .k ≡ a .n = omega arith in
+    c .before .loop .inv .1 ∙ ap (λ (k : ℕ). value (take k (drop (a .at + a .skip) (bitsOf (a .s .now))))) e
 
 pub gather-spec : {M : Type 1} → statement M
 gather-spec =

@@ -45,7 +45,7 @@ returns-2 : tie.Need-returns-2 Inv-loop μ-loop
 returns-2 c =
     let a = c .before .before .before .before .before .args in
     let l = c .before .before .before .loop in
-    sym (ap numberOf (sym (l .inv .1) ∙ ones-one (a .s .now) (a .at) (a .most) (l .k) (omega arith) (cc)))
+    sym (ap numberOf (sym (l .inv .1) ∙ ones-one (a .s .now) (a .at) (a .most) (l .k) (omega arith) (sym (c .before .bit-at .ensures) ∙ c .if2 .taken)))
 
 returns-3 : tie.Need-returns-3 Inv-loop μ-loop
 returns-3 c =

@@ -1,11 +1,12 @@
 -- `bits::u_behind` meets its contract: the field's last byte is in the slice exactly if its last bit is.
-use Prim.Native.Nat.{_+_, _≤_}
-use mathlib.Core.Path.{_≡_, sym, ap}
+use Prim.Native.Nat.{ℕ, _+_, _≤_}
+use mathlib.Core.Path.{_≡_, _∙_, sym, ap}
 use native.Mathlib.Omega.{arith}
 use lib.ListN.{length, drop}
 use Rattle.tree.specs.Bits.{bitsOf, valueFrom}
 use Rattle.tree.proofs.Bits.{length-rest}
 use Rattle.tree.proofs.Elements.{u-ok, u-short}
+use Rattle.bits.specs.declared.Number.the-variants.{Is}
 use Rattle.bits.specs.Answer.{nameless, numberOf}
 use borrow.Author.Needs.{needs}
 use Rattle.bits.proofs.u_behind.Statement.{statement}
@@ -45,7 +46,7 @@ returns-3 c =
     let a = c .before .before .before .before .args in
     let l = drop (a .at + a .skip) (bitsOf (a .s .now)) in
     let h : a .n ≤ length l = omega (arith, length-rest (a .s .now) (a .at + a .skip)) in
-    cc (ap numberOf (u-ok nameless (a .n) (a .at) l h))
+    ap (λ (v : ℕ). Is v (a .n)) (c .gather .ensures) ∙ sym (ap numberOf (u-ok nameless (a .n) (a .at) l h))
 
 pub u-behind-spec : {M : Type 1} → statement M
 u-behind-spec =

@@ -1,16 +1,17 @@
--- `block::after_fields` meets its contract.
+-- `block::after_fields` meets its contract: the zero bits, then the order of level 1.
 use Prim.Native.Nat.{ℕ}
 use mathlib.Core.Path.{_≡_, _∙_, ap, sym}
 use lib.ListN.{drop}
 use Rattle.tree.specs.Bits.{bitsOf}
-use Rattle.tree.specs.Syntax.{done, zeroBits, read}
+use Rattle.tree.specs.Reading.{ok}
+use Rattle.tree.specs.Syntax.{zeroBits, read}
 use Rattle.bits.specs.declared.Number.the-variants.{Is, Refused}
 use Rattle.bits.specs.Answer.{nameless, spanOf}
 use Rattle.bits.proofs.Reading.{spans-ok, spans-no, named-zeros}
 use Rattle.record.specs.Name.{«ext_dm_alignment_zero_bit»}
 use Rattle.record.specs.Level.{padding}
 use Rattle.block.specs.Parts.{afterFields}
-use Rattle.block.proofs.Laws.{first-no, closed, read-closing}
+use Rattle.block.proofs.Laws.{first-no, ordered, in-order, out-of-order, read-closing}
 use borrow.Author.Needs.{needs}
 use Rattle.block.proofs.after_fields.Statement.{statement}
 use Rattle.block.proofs.after_fields.Tie as tie
@@ -30,8 +31,26 @@ enum-known-why c = search needs
 enum-known-width : tie.Need-enum-known-width
 enum-known-width c = search needs
 
+in-order-requires : tie.Need-in-order-requires
+in-order-requires c κs = search needs
+
+refuse-requires : tie.Need-refuse-requires
+refuse-requires c κs = search needs
+
+-- the zero bits were read
+first : (c : tie.After-known-told2) → read (zeroBits «ext_dm_alignment_zero_bit» (padding (c .before .before .before .before .before .before .args .level))) (c .before .before .before .before .before .before .args .at) (drop (c .before .before .before .before .before .before .args .at) (bitsOf (c .before .before .before .before .before .before .args .s .now))) ≡ ok tt (c .before .width .given .0 .1 .0)
+first c =
+    let a = c .before .before .before .before .before .before .args in
+    let l = drop (a .at) (bitsOf (a .s .now)) in
+    let v = c .before .width .given .0 .0 in
+    let n = c .before .width .given .0 .1 .0 in
+    let z = c .before .before .before in
+    let e : Is v n ≡ spanOf (read (zeroBits nameless (padding (a .level))) (a .at) l) =
+    sym (c .before .width .given .1) ∙ z .read-zeros .ensures ∙ ap (λ (k : ℕ). spanOf (read (zeroBits nameless k) (a .at) l)) (z .before .padding-of .ensures) in
+    spans-ok (read (zeroBits «ext_dm_alignment_zero_bit» (padding (a .level))) (a .at) l) v n (e ∙ named-zeros «ext_dm_alignment_zero_bit» (padding (a .level)) (a .at) l)
+
 returns : tie.Need-returns
-returns c =
+returns c start =
     let a = c .before .before .before .before .before .before .args in
     let B = bitsOf (a .s .now) in
     let l = drop (a .at) B in
@@ -40,20 +59,21 @@ returns c =
     let e : Refused r ≡ spanOf (read (zeroBits nameless (padding (a .level))) (a .at) l) =
     sym (c .before .why .given .1) ∙ z .read-zeros .ensures ∙ ap (λ (k : ℕ). spanOf (read (zeroBits nameless k) (a .at) l)) (z .before .padding-of .ensures) in
     let o = read (zeroBits «ext_dm_alignment_zero_bit» (padding (a .level))) (a .at) l in
-    first-no (afterFields (a .level) (a .block)) o (λ z. done (a .block)) (a .at) B (read-closing (a .level) (a .block) (a .at) l) r
+    first-no (afterFields start (a .level) (a .block)) o (λ z. ordered start (a .block)) (a .at) B (read-closing start (a .level) (a .block) (a .at) l) r
     (spans-no o r (e ∙ named-zeros «ext_dm_alignment_zero_bit» (padding (a .level)) (a .at) l))
 
 returns-2 : tie.Need-returns-2
-returns-2 c =
-    let a = c .before .before .before .before .before .before .args in
-    let B = bitsOf (a .s .now) in
-    let l = drop (a .at) B in
-    let v = c .before .width .given .0 .0 in
-    let n = c .before .width .given .0 .1 .0 in
-    let z = c .before .before .before in
-    let e : Is v n ≡ spanOf (read (zeroBits nameless (padding (a .level))) (a .at) l) =
-    sym (c .before .width .given .1) ∙ z .read-zeros .ensures ∙ ap (λ (k : ℕ). spanOf (read (zeroBits nameless k) (a .at) l)) (z .before .padding-of .ensures) in
-    closed (a .level) (a .block) (a .at) B n (spans-ok (read (zeroBits «ext_dm_alignment_zero_bit» (padding (a .level))) (a .at) l) v n (e ∙ named-zeros «ext_dm_alignment_zero_bit» (padding (a .level)) (a .at) l))
+returns-2 c start =
+    let d = c .before .before in
+    let a = d .before .before .before .before .before .before .args in
+    in-order start (a .level) (a .block) (a .at) (bitsOf (a .s .now)) (d .before .width .given .0 .1 .0) (first d) (sym (c .before .in-order .ensures) ∙ c .if1 .taken)
+
+returns-3 : tie.Need-returns-3
+returns-3 c start =
+    let d = c .before .before .before in
+    let a = d .before .before .before .before .before .before .args in
+    c .refuse .ensures
+    ∙ out-of-order start (a .level) (a .block) (a .at) (bitsOf (a .s .now)) (d .before .width .given .0 .1 .0) (first d) (sym (c .before .before .in-order .ensures) ∙ c .before .if1 .left)
 
 pub after-fields-spec : {M : Type 1} → statement M
 after-fields-spec =
@@ -64,5 +84,8 @@ after-fields-spec =
     read-zeros-requires
     enum-known-why
     enum-known-width
+    in-order-requires
+    refuse-requires
     returns
-    returns-2)
+    returns-2
+    returns-3)

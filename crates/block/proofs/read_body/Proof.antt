@@ -29,7 +29,7 @@ returns : tie.Need-returns
 returns c start there =
     let b = c .before .before .before in
     let a = b .before .before .before .args in
-    c .read-content .ensures
+    c .read-content .ensures start
     ∙ body-is start there (a .size) (a .level) (a .at) (drop (a .at) (bitsOf (a .s .now))) (sym (b .before .is-known .ensures) ∙ c .before .before .if1 .taken) (c .before .if2 .taken ∙ b .bytes-of .ensures)
 
 returns-2 : tie.Need-returns-2

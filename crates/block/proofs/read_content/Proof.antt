@@ -9,9 +9,9 @@ use Rattle.tree.specs.Syntax.{row, read}
 use Rattle.record.specs.declared.Block.{Block}
 use Rattle.record.specs.Name.{Name}
 use Rattle.record.specs.Level.{fieldsOf}
-use Rattle.syntax.specs.Data.{blockOf, content}
+use Rattle.syntax.specs.Data.{blockOf}
 use Rattle.fields.proofs.Laws.{step-ok, step-no}
-use Rattle.block.specs.Parts.{afterFields, stepBehind, stepTook}
+use Rattle.block.specs.Parts.{afterFields, contentFrom, stepBehind, stepTook}
 use Rattle.block.proofs.Laws.{contentBits, first-no, second-on, read-fields, few-fields, few-zeros}
 use borrow.Author.Needs.{needs}
 use Rattle.block.proofs.read_content.Statement.{statement}
@@ -51,27 +51,27 @@ behind-requires c κs =
     let f = first d in
     let a = d .before .before .before .before .before .args in
     let n = d .before .b .given .0 .1 .0 in
-    let few : stepTook (c .after-fields .result) ≤ contentBits = rw (c .after-fields .ensures) (few-zeros (a .level) (d .before .b .given .0 .0) (a .at + n) (drop (a .at + n) (bitsOf (a .s .now)))) in
+    let few : stepTook (c .after-fields .result) ≤ contentBits = rw (c .after-fields .ensures 0) (few-zeros 0 (a .level) (d .before .b .given .0 .0) (a .at + n) (drop (a .at + n) (bitsOf (a .s .now)))) in
     omega (arith, f .1, few)
 
 returns : tie.Need-returns
 unfolding fieldsRead
-returns c =
+returns c start =
     let s = c .before .before .before .before .before in
     let B = bitsOf (s .args .s .now) in
     let l = drop (s .args .at) B in
     let r = c .before .why .given .0 .0 in
-    first-no (content (s .args .level)) (fieldsRead s) (afterFields (s .args .level)) (s .args .at) B (read-fields (s .args .level) (s .args .at) l) r (step-no (fieldsRead s) r (sym (c .before .why .given .1) ∙ c .before .before .before .fields-of .ensures))
+    first-no (contentFrom start (s .args .level)) (fieldsRead s) (afterFields start (s .args .level)) (s .args .at) B (read-fields start (s .args .level) (s .args .at) l) r (step-no (fieldsRead s) r (sym (c .before .why .given .1) ∙ c .before .before .before .fields-of .ensures))
 
 returns-2 : tie.Need-returns-2
 unfolding fieldsRead
-returns-2 c =
+returns-2 c start =
     let d = c .before .before in
     let s = d .before .before .before .before .before in
     let a = s .args in
     let B = bitsOf (a .s .now) in
-    c .behind .ensures ∙ ap (stepBehind (d .before .b .given .0 .1 .0)) (c .before .after-fields .ensures)
-    ∙ second-on (content (a .level)) (fieldsRead s) (afterFields (a .level)) (a .at) B (read-fields (a .level) (a .at) (drop (a .at) B)) (d .before .b .given .0 .0) (d .before .b .given .0 .1 .0) (first d .0)
+    c .behind .ensures ∙ ap (stepBehind (d .before .b .given .0 .1 .0)) (c .before .after-fields .ensures start)
+    ∙ second-on (contentFrom start (a .level)) (fieldsRead s) (afterFields start (a .level)) (a .at) B (read-fields start (a .level) (a .at) (drop (a .at) B)) (d .before .b .given .0 .0) (d .before .b .given .0 .1 .0) (first d .0)
 
 pub read-content-spec : {M : Type 1} → statement M
 read-content-spec =

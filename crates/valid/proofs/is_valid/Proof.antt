@@ -1,15 +1,17 @@
 -- `valid::is_valid` meets its contract. The invariants: the walk from block j on says what the walk from the first says; behind the blocks, the places from k on are empty exactly if those from n on are.
-use Prim.Native.Nat.{_-_, _<_, _≤_}
+use Prim.Native.Nat.{ℕ, _-_, _<_, _≤_}
 use mathlib.Core.Path.{_≡_, refl, sym, _∙_}
 use mathlib.Core.List.{[]}
-use mathlib.Core.Bool.{true, false}
+use mathlib.Core.Bool.{Bool, true, false, not, _&&_}
 use native.Mathlib.Omega.{arith}
 use borrow.Author.Needs.{needs}
 use borrow.Author.Tests.{eq-eqb, ne-eqb, lt-leb}
+use lib.Dec.{eqb}
 use lib.ListN.{length, take, drop, length-map, drop-of-length-le}
 use lib.Seq.{slice-empty}
+use Rattle.record.specs.declared.Block.{Block}
 use Rattle.record.specs.Level.{levelOf}
-use Rattle.record.specs.Blocks.{mostBlocks, blockIn, allBlocks, blocks, beyond}
+use Rattle.record.specs.Blocks.{mostBlocks, blockIn, allBlocks, blocks, beyond, inRange, inOrder}
 use Rattle.record.proofs.Laws.{blockAt, drop-more}
 use Rattle.valid.specs.Valid.{every, isNothing, validBlock, mayFollow, wellFormed}
 use Rattle.valid.proofs.Clauses.{valid-is-walk, walk-fails, rest-fails, flag-decides}
@@ -32,6 +34,10 @@ abbrev μ-loop2 : tie.MeasureT-loop2
 -- a record has 18 places
 long : (c : tie.Start Inv-loop μ-loop Inv-loop2 μ-loop2) → length (c .args .t1 .places) ≡ mostBlocks
 long c = sym (length-map (c .args .t1 .places) _) ∙ c .good .0 .1 .1 .1 .1 .0 .1 .0 .1
+
+-- the test of one block, from what its three calls gave
+tested : (b : Block) (l : ℕ) (p q t : Bool) → l ≡ levelOf b → p ≡ inRange b → q ≡ inOrder b → not (eqb l 0) && p && q ≡ t → validBlock b ≡ t
+tested b l p q t e f g h = rw (e, f, g) at h
 
 returns : tie.Need-returns Inv-loop μ-loop Inv-loop2 μ-loop2
 returns c =
@@ -72,7 +78,8 @@ loop-again c =
     let r = s .args .t1 in
     let n = r .count in
     let h : n ≤ length (r .places) = omega (arith, long s) in
-    let f : validBlock (blockAt r (l .j)) ≡ true = cc in
+    let d = c .before .before in
+    let f : validBlock (blockAt r (l .j)) ≡ true = tested (blockAt r (l .j)) (d .before .before .level-of .result) (d .before .in-range .result) (d .in-order .result) true (d .before .before .level-of .ensures) (d .before .in-range .ensures) (d .in-order .ensures) (c .before .if2 .taken) in
     let z : l .j ≡ 0 = omega arith in
     let m : mayFollow (take (l .j) (allBlocks r)) (blockAt r (l .j)) ≡ true = rw z (first-follows (blockAt r 0) (rw z at f)) in
     (omega arith, (rw (walk-more r (l .j) n (omega arith) h, f, m) at (l .inv .1)))
@@ -93,7 +100,8 @@ loop-again-2 c =
     let r = s .args .t1 in
     let n = r .count in
     let h : n ≤ length (r .places) = omega (arith, long s) in
-    let f : validBlock (blockAt r (l .j)) ≡ true = cc in
+    let d = c .before .before .before .before in
+    let f : validBlock (blockAt r (l .j)) ≡ true = tested (blockAt r (l .j)) (d .before .before .level-of .result) (d .before .in-range .result) (d .in-order .result) true (d .before .before .level-of .ensures) (d .before .in-range .ensures) (d .in-order .ensures) (c .before .before .before .if2 .taken) in
     let m : mayFollow (take (l .j) (allBlocks r)) (blockAt r (l .j)) ≡ true = sym (c .before .may-follow .ensures) ∙ c .if4 .taken in
     (omega arith, (rw (walk-more r (l .j) n (omega arith) h, f, m) at (l .inv .1)))
 
@@ -104,7 +112,8 @@ returns-2 c =
     let r = s .args .t1 in
     let n = r .count in
     let h : n ≤ length (r .places) = omega (arith, long s) in
-    let f : validBlock (blockAt r (l .j)) ≡ true = cc in
+    let d = c .before .before .before .before in
+    let f : validBlock (blockAt r (l .j)) ≡ true = tested (blockAt r (l .j)) (d .before .before .level-of .result) (d .before .in-range .result) (d .in-order .result) true (d .before .before .level-of .ensures) (d .before .in-range .ensures) (d .in-order .ensures) (c .before .before .before .if2 .taken) in
     let m : mayFollow (take (l .j) (allBlocks r)) (blockAt r (l .j)) ≡ false = sym (c .before .may-follow .ensures) ∙ c .if4 .left in
     let w : false ≡ wellFormed [] (take n (allBlocks r)) = rw (walk-more r (l .j) n (omega arith) h, f, m) at (l .inv .1) in
     walk-fails r w
@@ -116,7 +125,8 @@ returns-3 c =
     let r = s .args .t1 in
     let n = r .count in
     let h : n ≤ length (r .places) = omega (arith, long s) in
-    let f : validBlock (blockAt r (l .j)) ≡ false = cc in
+    let d = c .before in
+    let f : validBlock (blockAt r (l .j)) ≡ false = tested (blockAt r (l .j)) (d .before .before .level-of .result) (d .before .in-range .result) (d .in-order .result) false (d .before .before .level-of .ensures) (d .before .in-range .ensures) (d .in-order .ensures) (c .if2 .left) in
     let w : false ≡ wellFormed [] (take n (allBlocks r)) = rw (walk-more r (l .j) n (omega arith) h, f) at (l .inv .1) in
     walk-fails r w
 
@@ -160,7 +170,7 @@ loop2-again c =
     let s = c .before .before .before .before .before .before .before .before in
     let l = c .before .before .before .before .loop2 in
     let h : l .k < length (s .args .t1 .places) = omega (arith, long s) in
-    let q : isNothing (blockAt (s .args .t1) (l .k)) ≡ true = eq-eqb (levelOf (blockAt (s .args .t1) (l .k))) 0 (cc) in
+    let q : isNothing (blockAt (s .args .t1) (l .k)) ≡ true = eq-eqb (levelOf (blockAt (s .args .t1) (l .k))) 0 (sym (c .before .level-of2 .ensures) ∙ c .if5 .taken) in
     (omega arith, (rw (drop-more (s .args .t1) (l .k) h, q) at (l .inv .1)))
 
 returns-4 : tie.Need-returns-4 Inv-loop μ-loop Inv-loop2 μ-loop2

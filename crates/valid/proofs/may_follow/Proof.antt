@@ -1,14 +1,16 @@
 -- `valid::may_follow` meets its contract. The invariant: `seen` and `met` are what the first j blocks make them.
-use Prim.Native.Nat.{_-_, _<_, _≤_}
+use Prim.Native.Nat.{ℕ, _+_, _-_, _<_, _≤_}
 use mathlib.Core.Path.{_≡_, refl, sym, _∙_}
-use mathlib.Core.List.{[], _∷_}
-use mathlib.Core.Bool.{Bool, true, false, not, Bool·not-not}
+use mathlib.Core.List.{List, [], _∷_, _++_}
+use mathlib.Core.Bool.{Bool, true, false, not, _||_, Bool·not-not}
 use native.Mathlib.Omega.{arith}
 use borrow.Author.Needs.{needs}
 use lib.Dec.{eqb}
 use lib.ListN.{length, take, length-map}
 use mir.Val.{boolByte}
 use Rattle.tree.specs.Bits.{bit}
+use Rattle.record.specs.declared.Block.{Block}
+use Rattle.record.specs.Level.{levelOf}
 use Rattle.record.specs.Blocks.{mostBlocks, allBlocks}
 use Rattle.record.proofs.Laws.{not-or, blockAt, take-more}
 use Rattle.valid.specs.Valid.{many, targets, newTarget, mayFollow}
@@ -31,6 +33,14 @@ long c = sym (length-map (c .args .t1 .places) _) ∙ c .good .0 .1 .1 .1 .1 .0 
 byte : (t : Bool) → (boolByte t ≡ bit t) × (boolByte t ≤ 1)
 byte true = (refl, omega arith)
 byte false = (refl, omega arith)
+
+-- one block more, counted
+counted : (l k seen : ℕ) (bs : List Block) (a : Block) → k ≡ levelOf a → seen ≡ many l bs → seen + boolByte (eqb k l) ≡ many l (bs ++ (a ∷ []))
+counted l k seen bs a e h = rw (many-more, h, e, byte (eqb (levelOf a) l) .0)
+
+-- one block more, with its target
+met-more : (met same : Bool) (bs : List Block) (a b : Block) → same ≡ not (newTarget (a ∷ []) b) → not met ≡ newTarget bs b → not (met || same) ≡ newTarget (bs ++ (a ∷ [])) b
+met-more met same bs a b e h = rw (new-target-append bs (a ∷ []) b, not-or, h, e, Bool·not-not)
 
 level-of-requires : tie.Need-level-of-requires Inv-loop μ-loop
 level-of-requires c κs = search needs
@@ -77,8 +87,8 @@ loop-again c =
     let h : l .j < length (r .places) = omega (arith, long (s .before)) in (
       omega arith,
       omega (arith, byte t),
-      rw (take-more r (l .j) h, many-more) (cc (byte t .0)),
-      rw (take-more r (l .j) h, new-target-append (take (l .j) (allBlocks r)) (a ∷ []) b, not-or) (cc (Bool·not-not (newTarget (a ∷ []) b))),
+      rw (take-more r (l .j) h) (counted (s .level-of .result) (c .before .level-of2 .result) (l .seen) (take (l .j) (allBlocks r)) a (c .before .level-of2 .ensures) (l .inv .2)),
+      rw (take-more r (l .j) h) (met-more (l .met) (c .same-target .result) (take (l .j) (allBlocks r)) a b (c .same-target .ensures) (l .inv .3)),
     )
 
 most-of-requires : tie.Need-most-of-requires Inv-loop μ-loop
