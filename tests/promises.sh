@@ -1,6 +1,7 @@
 #!/usr/bin/env bash
 # docs/PROMISES.md keeps step with the tree: every must-fail edit is named there, every edit that it names is there, every
-# statement that it cites stands in the file that it says, and every public function is listed there and has its one-answer law.
+# statement that it cites stands in the file that it says, every public function is listed there and has its one-answer law, and
+# every entry point has its law that it asks nothing of its caller.
 set -euo pipefail
 cd "$(dirname "$0")/.."
 python3 - <<'PYTHON'
@@ -43,7 +44,7 @@ texts = {path: open(path).read() for path in glob.glob('crates/*/**/*.antt', rec
 others = {'requires', 'result', 'buffer', 'table', 'io::read_full'}  # words of Rattle, clauses, a function of the kit
 
 def stands(name, paths):
-    defined = re.compile(r'^\s*(?:(?:pub|abbrev|unfoldable|record) )*' + re.escape(name) + r'(?: \(.*\))* :'
+    defined = re.compile(r'^\s*(?:(?:pub|abbrev|unfoldable|record|data) )*' + re.escape(name) + r'(?: \(.*\))* :'
                          r'|\b(?:fn|struct|enum) ' + re.escape(name.split('::')[-1]) + r'\b', re.M)
     return any(defined.search(texts[path]) for path in paths)
 
@@ -76,6 +77,23 @@ for path in sorted(glob.glob('crates/*/src/lib.rt')):
             faults.append(f'{crate}::{name} is public and not listed')
         if not re.search('^ *pub ' + name.replace('_', '-') + '-one :', laws, re.M):
             faults.append(f'{crate}::{name} has no law in crates/{crate}/proofs/OneAnswer.antt')
+
+# ---- entry points: the two lists that begin so, each up to its first full stop; a law of a function's own contract or clauses
+entries = set()
+for begin in ('Entry points, without a `requires`: ', 'For C, without a `requires`: '):
+    names = re.findall(r'`([^`]+)`', listed.partition(begin)[2].partition('.')[0])
+    if not names:
+        faults.append(f'there is no list "{begin}.."')
+    entries |= {name.split('::')[-1].replace('_', '-') for name in names}
+laws = {law for path in texts if '/proofs/' in path
+        for law in re.findall(r'^ *pub (\S+)-asks-nothing : .*\b\1-(?:contract\.Pre κs a|clauses)$', texts[path], re.M)}
+for name in sorted(entries - laws):
+    faults.append(f'{name} is an entry point and has no law {name}-asks-nothing')
+for name in sorted(laws - entries):
+    faults.append(f'{name} asks nothing and is not listed as an entry point')
+for name in re.findall(r'pub extern "C" fn (\w+)', texts['crates/pimlasut/src/lib.rt']):
+    if name.replace('_', '-') not in entries:
+        faults.append(f'{name} is a function for C and not listed as an entry point')
 
 for fault in faults:
     print('docs/PROMISES.md:', fault)

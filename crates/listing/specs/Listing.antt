@@ -7,6 +7,8 @@ use lib.Dec.{eqb}
 use lib.IntN.{ℤ, pos}
 use Rattle.tree.specs.Bits.{bit}
 use Rattle.tree.specs.Syntax.{Field}
+use Rattle.output.specs.declared.Written.{Written}
+use Rattle.output.specs.Output.{writtenAs, bufferAs}
 use Rattle.text.specs.Text.{Line, line, text}
 use Rattle.record.specs.declared.Block.{Block}
 use Rattle.record.specs.declared.Record.{Record}
@@ -77,3 +79,10 @@ listing q = text (lines q)
 -- a refusal, or a record that is valid: every answer of the reader is one of these
 abbrev pub listable : Reading → Bool
 listable q = not (eqb (q .result) 0) || valid (q .«record»)
+
+-- write_listing: the answer, and the buffer afterwards
+abbrev pub writeListing : Reading → List ℕ → Written
+writeListing q out = writtenAs (listing q) (listable q) out
+
+abbrev pub listingBuffer : Reading → List ℕ → List ℕ
+listingBuffer q out = bufferAs (listing q) (listable q) out

@@ -10,12 +10,11 @@ ghost use mathlib.Core.List.{[], _∷_};
 ghost use Prim.Native.Nat.{_≤_};
 ghost use lib.ListN.{length};
 ghost use lib.IntN.{pos};
-ghost use Rattle.output.specs.Output.{writtenAs, bufferAs};
 ghost use Rattle.text.specs.Text.{text};
 ghost use Rattle.text.specs.Typing.{RoomForText, Typed};
 ghost use Rattle.record.specs.Level.{level, levelOf, valuesOf};
 ghost use Rattle.record.specs.Blocks.{mostBlocks, blocks};
-ghost use Rattle.listing.specs.Listing.{fieldLines, blockLines, blocksLines, headLines, acceptedLines, listing, listable};
+ghost use Rattle.listing.specs.Listing.{fieldLines, blockLines, blocksLines, headLines, acceptedLines, listing, listable, writeListing, listingBuffer};
 ghost use Rattle.listing.specs.Longest.{longest};
 
 // The longest lines before the blocks, and the longest of a block of each level.
@@ -190,8 +189,8 @@ fn is_listable(q: Reading) -> bool
 // Writes the listing of a reading: any reading and any buffer get an answer. The text is made on a page of its own, because
 // its length is known only then, and a buffer that is too short must stay as it is.
 pub fn write_listing(q: Reading, out: &mut [u8]) -> Written
-    ensures result { λ w. ⌜ w ≡ writtenAs (listing q) (listable q) (now (out .entry)) ⌝ }
-    ensures buffer { λ w. ⌜ now (out .exit) ≡ bufferAs (listing q) (listable q) (now (out .entry)) ⌝ }
+    ensures result { λ w. ⌜ w ≡ writeListing q (now (out .entry)) ⌝ }
+    ensures buffer { λ w. ⌜ now (out .exit) ≡ listingBuffer q (now (out .entry)) ⌝ }
 {
     if is_listable(q) {
         let mut page = [0u8; BYTES];

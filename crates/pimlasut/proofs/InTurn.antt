@@ -9,15 +9,20 @@ use lib.Dec.{leb}
 use lib.IntN.{ℤ}
 use lib.ListN.{length, take}
 use Rattle.refusals.specs.Refusals.{notValid, tooManyPoints, notATrack}
-use Rattle.tree.specs.Bits.{Bytes}
-use Rattle.valid.specs.Valid.{valid}
+use Rattle.tree.specs.Bits.{bitsOf, Bytes}
+use Rattle.tree.specs.Reading.{Out, ok, no}
+use Rattle.record.specs.declared.Record.{Record}
+use Rattle.record.specs.Name.{Name}
+use Rattle.record.specs.Blocks.{emptyRecord}
+use Rattle.valid.specs.Valid.{every, many, targets, allDiffer, valid}
+use Rattle.syntax.specs.Data.{bareData}
+use Rattle.syntax.proofs.Exact.{accepted-is-the-one-payload}
+use Rattle.reader.specs.Reading.{readingOf, readBare}
 use Rattle.keyed.proofs.Mapped.{join-all}
 use Rattle.plan.specs.Limit.{mostPoints}
 use Rattle.plan.specs.Pictures.{pictures}
 use Rattle.track.specs.declared.Point.{Point}
 use Rattle.track.specs.Track.{number, padded, isTrack, joinOf, placedPoints}
-use Rattle.promises.specs.Functions.{readBare}
-use Rattle.promises.proofs.Reading.{accepted-means-the-one-payload}
 use Rattle.flat.specs.Flat.{flat, recordIn}
 use Rattle.flat.proofs.Named.{length-in, flat-names, valid-is-typed}
 use Rattle.tables.specs.Table.{tableIn}
@@ -53,6 +58,9 @@ placed-is-read numbers picture e =
 
 -- and the numbers that a reading leaves name the record that was read
 pub reading-is-named : (s : List ℕ) → Bytes s → readBare s .result ≡ 0 → recordIn (flat (readBare s .«record»)) ≡ readBare s .«record»
-reading-is-named s h e =
-    let p = accepted-means-the-one-payload s h e .0 in
-    flat-names (readBare s .«record») (valid-is-typed (readBare s .«record») (p .places) (p .valid-record))
+unfolding valid every many targets allDiffer
+reading-is-named s h e = go (bareData (bitsOf s)) refl
+  where
+    go : (o : Out Name Record) → bareData (bitsOf s) ≡ o → recordIn (flat (readingOf o .«record»)) ≡ readingOf o .«record»
+    go (ok r n) q = let p = accepted-is-the-one-payload s h r n q .0 in flat-names r (valid-is-typed r (p .places) (p .valid-record))
+    go (no f) q = flat-names emptyRecord (valid-is-typed emptyRecord refl refl)

@@ -7,4 +7,7 @@ pub mod TrackLaws
 pub mod Shown
 pub mod Joining
 pub mod Placing
+pub mod Members
 pub mod Tracks
+pub mod Pins
+pub mod Tied

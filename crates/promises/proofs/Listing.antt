@@ -15,10 +15,10 @@ use Rattle.syntax.specs.Reason.{wrappedNumbers}
 use Rattle.syntax.specs.Wrapper.{wrappedData, wrappedPayload}
 use Rattle.syntax.proofs.Largest.{most-bits}
 use Rattle.reader.specs.declared.Reading.{Reading}
-use Rattle.listing.specs.Listing.{listing, listable}
+use Rattle.wrapper.specs.Wrapper.{readWrapped}
+use Rattle.listing.specs.Listing.{listing, listable, writeListing, listingBuffer}
 use Rattle.listing.proofs.Longest.{no-listing-is-longer, longest-bytes}
 use Rattle.listing.proofs.Different.{accepted-is-given, one-listing-one-reading}
-use Rattle.promises.specs.Functions.{readWrapped, writeListing, listingBuffer}
 use Rattle.promises.proofs.Reading.{wrapped-data-gets-a-listed-number, a-refusal-is-empty, accepted-wrapped-means-the-one-payload}
 
 -- two accepted payloads with one listing are the same bytes

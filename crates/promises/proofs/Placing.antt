@@ -15,14 +15,14 @@ use Rattle.keyed.specs.Keyed.{Compared, less, same, greater, inForceBy}
 use Rattle.plan.specs.Limit.{mostPoints}
 use Rattle.plan.specs.Pictures.{Before, order, pictures, before-irreflexive, before-transitive}
 use Rattle.track.specs.declared.Point.{Point}
-use Rattle.track.specs.Track.{number, padded, allStand, RisingPoints, pointInForce, noneInForce, shown, placedPoints, placeRefusal, placeAnswer, placeTable}
-use Rattle.promises.specs.Joins.{Table, table, Track, points, at, placed}
+use Rattle.track.specs.Track.{number, padded, allStand, RisingPoints, pointInForce, noneInForce, shown, placedPoints, placeRefusal, placeTable}
+use Rattle.track.specs.Lent.{Table, tableOf, Track, pointsIn, shownAt, placingInto, placedInto}
 use Rattle.promises.proofs.TrackLaws.{points-padded, made-track}
 use Rattle.promises.proofs.Shown.{track-shows}
 use Rattle.promises.proofs.Joining.{refused-at}
 
 -- a refused placing changes no entry, and its count is 0
-pub refused-placing : (x : Point) (old : List Point) → (placeAnswer x (length old) .result ≡ 0 → ⊥) → (placeTable old x ≡ old) × (placeAnswer x (length old) .count ≡ 0)
+pub refused-placing : (x : Point) (old : List Point) → (placingInto x old .result ≡ 0 → ⊥) → (placeTable old x ≡ old) × (placingInto x old .count ≡ 0)
 refused-placing x old h = refused-at (placeRefusal x (length old)) (padded (placedPoints x)) old (length (placedPoints x)) h
 
 placed-at : (p q : Bool) → _≡_ {A = ℕ} (cond p (cond q 0 unfitOutput) notValid) 0 → (p ≡ true) × (q ≡ true)
@@ -30,9 +30,9 @@ placed-at true true e = (refl, refl)
 placed-at true false e = absurd (omega arith)
 placed-at false q e = absurd (omega arith)
 
-module _ (x : Point) (old : List Point) (go : placeAnswer x (length old) .result ≡ 0) where
-  placed-is : placed x old ≡ table (padded (placedPoints x)) (length (placedPoints x))
-  placed-is = ap (λ (k : ℕ). table (cond (eqb k 0) (padded (placedPoints x)) old) (cond (eqb k 0) (length (placedPoints x)) 0)) go
+module _ (x : Point) (old : List Point) (go : placingInto x old .result ≡ 0) where
+  placed-is : placedInto x old ≡ tableOf (padded (placedPoints x)) (length (placedPoints x))
+  placed-is = ap (λ (k : ℕ). tableOf (cond (eqb k 0) (padded (placedPoints x)) old) (cond (eqb k 0) (length (placedPoints x)) 0)) go
 
   is-valid : valid (x .«record») ≡ true
   is-valid = placed-at (valid (x .«record»)) (eqb (length old) mostPoints) go .0
@@ -41,13 +41,13 @@ module _ (x : Point) (old : List Point) (go : placeAnswer x (length old) .result
   one-or-none true e = (omega arith, ((tt, tt), and-both _ _ (and-both _ _ e is-valid) refl))
   one-or-none false e = (omega arith, (tt, refl))
 
-  pub placed-track : Track (placed x old)
+  pub placed-track : Track (placedInto x old)
   placed-track = let y = one-or-none (x .«record» .refresh) refl in subst Track (sym placed-is) (made-track (placedPoints x) (y .0) (y .1 .0) (y .1 .1))
 
-  placed-shows : (q : ℤ) → at (placed x old) q ≡ shown (pointInForce q (placedPoints x))
+  placed-shows : (q : ℤ) → shownAt (placedInto x old) q ≡ shown (pointInForce q (placedPoints x))
   placed-shows q =
-      track-shows (placed x old) q placed-track
-      ∙ ap (λ (l : List Point). shown (pointInForce q l)) (ap points placed-is ∙ points-padded (placedPoints x))
+      track-shows (placedInto x old) q placed-track
+      ∙ ap (λ (l : List Point). shown (pointInForce q l)) (ap pointsIn placed-is ∙ points-padded (placedPoints x))
 
   from-there : (q : ℤ) (t : Compared Before q (number x)) → (Before q (number x) → ⊥) → inForceBy pictures number x none t ≡ some x
   from-there q (less h) n = absurd (n h)
@@ -62,11 +62,11 @@ module _ (x : Point) (old : List Point) (go : placeAnswer x (length old) .result
   with-flag : (f : Bool) → x .«record» .refresh ≡ f → (q : ℤ) → pointInForce q (placedPoints x) ≡ pointInForce q (cond f (x ∷ []) [])
   with-flag f e q = ap (λ (g : Bool). pointInForce q (cond g (x ∷ []) [])) e
 
-  pub placed-shows-from : x .«record» .refresh ≡ true → (q : ℤ) → (Before q (number x) → ⊥) → at (placed x old) q ≡ shown (some x)
+  pub placed-shows-from : x .«record» .refresh ≡ true → (q : ℤ) → (Before q (number x) → ⊥) → shownAt (placedInto x old) q ≡ shown (some x)
   placed-shows-from e q n = placed-shows q ∙ ap shown (with-flag true e q ∙ from-there q (order q (number x)) n)
 
-  pub placed-shows-before : x .«record» .refresh ≡ true → (q : ℤ) → Before q (number x) → at (placed x old) q ≡ noneInForce 0
+  pub placed-shows-before : x .«record» .refresh ≡ true → (q : ℤ) → Before q (number x) → shownAt (placedInto x old) q ≡ noneInForce 0
   placed-shows-before e q h = placed-shows q ∙ ap shown (with-flag true e q ∙ before-there q (order q (number x)) h)
 
-  pub flag-0 : x .«record» .refresh ≡ false → (placed x old .count ≡ 0) × ((q : ℤ) → at (placed x old) q ≡ noneInForce 0)
+  pub flag-0 : x .«record» .refresh ≡ false → (placedInto x old .count ≡ 0) × ((q : ℤ) → shownAt (placedInto x old) q ≡ noneInForce 0)
   flag-0 e = (ap (λ (t : Table). t .count) placed-is ∙ ap (λ (f : Bool). length (cond f (x ∷ []) [])) e, (λ q. placed-shows q ∙ ap shown (with-flag false e q)))

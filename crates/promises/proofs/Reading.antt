@@ -19,8 +19,8 @@ use Rattle.syntax.specs.Reason.{dataNumbers, wrappedNumbers}
 use Rattle.syntax.proofs.Exact.{accepted-is-the-one-payload, the-payload-is-accepted}
 use Rattle.syntax.proofs.Reasons.{data-gets-a-listed-number}
 use Rattle.syntax.proofs.Wrapped.{accepted-is-the-one-wrapped-payload, the-wrapped-payload-is-accepted, wrapped-data-gets-a-listed-number as wrapped-data-is-listed}
-use Rattle.reader.specs.Reading.{readingOf}
-use Rattle.promises.specs.Functions.{readBare, readWrapped}
+use Rattle.reader.specs.Reading.{readingOf, readBare}
+use Rattle.wrapper.specs.Wrapper.{readWrapped}
 
 -- ---- the number of an answer says which kind it is
 

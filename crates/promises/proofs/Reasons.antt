@@ -22,8 +22,8 @@ use Rattle.syntax.specs.Largest.{readFarthest}
 use Rattle.syntax.proofs.Reasons.{the-reason-is-true, a-true-reason-is-given}
 use Rattle.syntax.proofs.Stands as bare
 use Rattle.syntax.proofs.Wrapped as wrapped
-use Rattle.reader.specs.Reading.{readingOf}
-use Rattle.promises.specs.Functions.{readBare, readWrapped}
+use Rattle.reader.specs.Reading.{readingOf, readBare}
+use Rattle.wrapper.specs.Wrapper.{readWrapped}
 
 -- a result that is not 0 is the number of a fault
 fault-of : (o : Out Name Record) → (readingOf o .result ≡ 0 → ⊥) → (f : Fault Name) × (o ≡ no f) × (readingOf o .result ≡ numberIn f)

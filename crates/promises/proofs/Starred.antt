@@ -12,8 +12,8 @@ use Rattle.syntax.specs.Wrapper.{wrappedData}
 use Rattle.syntax.specs.Limits.{Outcome, accepted, refused, outcomeOf, Case, limits, longPayloads, starred, wrappedCases}
 use Rattle.syntax.proofs.Limits as tree
 use Rattle.reader.specs.declared.Reading.{Reading}
-use Rattle.reader.specs.Reading.{readingOf}
-use Rattle.promises.specs.Functions.{readBare, readWrapped}
+use Rattle.reader.specs.Reading.{readingOf, readBare}
+use Rattle.wrapper.specs.Wrapper.{readWrapped}
 
 -- the answer that an outcome is
 abbrev pub answerFor : Outcome → Reading

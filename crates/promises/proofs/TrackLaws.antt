@@ -20,8 +20,8 @@ use Rattle.plan.specs.Pictures.{Before, order, pictures}
 use Rattle.track.specs.declared.Point.{Point}
 use Rattle.track.specs.declared.Joined.{Joined}
 use Rattle.track.specs.Track.{number, cleared, padded, mayStand, allStand, rise, pointsOf, isTrack, joinPoints, RisingPoints, pointAtNumber, joinRefusal, joinedAt}
+use Rattle.track.specs.Lent.{Table, tableOf, Track, pointsIn, answerInto, joinedInto}
 use Rattle.track.proofs.Tracks.{Is-track, is-track, track-is, rise-rising, rising-rise}
-use Rattle.promises.specs.Joins.{Table, table, Track, points, answer, joined}
 
 -- ---- every record may stand
 abbrev Stands : Point → Type 0
@@ -39,8 +39,8 @@ of-all (x ∷ xs) h = and-both _ _ (h .0) (of-all xs (h .1))
 pub parts : (t : Table) → Track t → Is-track (t .entries) (t .count)
 parts t v = is-track (t .entries) (t .count) v
 
-pub in-order : (t : Table) → Track t → RisingPoints (points t)
-in-order t v = rise-rising (points t) (parts t v .rises)
+pub in-order : (t : Table) → Track t → RisingPoints (pointsIn t)
+in-order t v = rise-rising (pointsIn t) (parts t v .rises)
 
 pub points-padded : (l : List Point) → pointsOf (padded l) (length l) ≡ l
 points-padded l = take-at l (drop (length l) (replicate mostPoints cleared)) (length l) refl
@@ -49,11 +49,11 @@ length-padded : (l : List Point) → length l ≤ mostPoints → length (padded 
 length-padded l h =
     omega (arith, length-append l (drop (length l) (replicate mostPoints cleared)), length-drop (length l) (replicate mostPoints cleared), length-replicate mostPoints cleared)
 
-pub made-track : (l : List Point) → length l ≤ mostPoints → RisingPoints l → allStand l ≡ true → Track (table (padded l) (length l))
+pub made-track : (l : List Point) → length l ≤ mostPoints → RisingPoints l → allStand l ≡ true → Track (tableOf (padded l) (length l))
 made-track l h r s =
     track-is (padded l) (length l) record { full = length-padded l h; few = h; rises = ap rise (points-padded l) ∙ rising-rise l r; stand = ap allStand (points-padded l) ∙ s }
 
-pub as-many-as-counted : (t : Table) → Track t → length (points t) ≡ t .count
+pub as-many-as-counted : (t : Table) → Track t → length (pointsIn t) ≡ t .count
 as-many-as-counted t v = let p = parts t v in length-take-le (t .count) (t .entries) (let f = p .full in let g = p .few in omega arith)
 
 -- ---- a join that is done
@@ -68,23 +68,23 @@ pub record Done (a b : Table) (result : List Point) : Type 0 where
   pub first : Track a
   pub second : Track b
   pub sized : length result ≡ mostPoints
-  pub within : length (joinPoints (points a) (points b)) ≤ mostPoints
+  pub within : length (joinPoints (pointsIn a) (pointsIn b)) ≤ mostPoints
 
-pub done-means : (a b : Table) (result : List Point) → answer a b result .result ≡ 0 → Done a b result
+pub done-means : (a b : Table) (result : List Point) → answerInto a b result .result ≡ 0 → Done a b result
 done-means a b result e =
-    let d = done (isTrack (a .entries) (a .count)) (isTrack (b .entries) (b .count)) (eqb (length result) mostPoints) (leb (length (joinPoints (points a) (points b))) mostPoints) e in
+    let d = done (isTrack (a .entries) (a .count)) (isTrack (b .entries) (b .count)) (eqb (length result) mostPoints) (leb (length (joinPoints (pointsIn a) (pointsIn b))) mostPoints) e in
     record { first = d .0; second = d .1 .0; sized = eqb-true (length result) mostPoints (d .1 .1 .0); within = leb-true _ _ (d .1 .1 .1) }
 
-table-at : (r : ℕ) (l old : List Point) → r ≡ 0 → table (cond (eqb r 0) (padded l) old) (joinedAt r l .count) ≡ table (padded l) (length l)
-table-at r l old e = ap (λ (k : ℕ). table (cond (eqb k 0) (padded l) old) (joinedAt k l .count)) e
+table-at : (r : ℕ) (l old : List Point) → r ≡ 0 → tableOf (cond (eqb r 0) (padded l) old) (joinedAt r l .count) ≡ tableOf (padded l) (length l)
+table-at r l old e = ap (λ (k : ℕ). tableOf (cond (eqb k 0) (padded l) old) (joinedAt k l .count)) e
 
 -- the whole table that it leaves, and the count that it answers
-pub joined-is : (a b : Table) (result : List Point) → answer a b result .result ≡ 0
-    → joined a b result ≡ table (padded (joinPoints (points a) (points b))) (length (joinPoints (points a) (points b)))
-joined-is a b result e = table-at (joinRefusal (a .entries) (a .count) (b .entries) (b .count) (length result)) (joinPoints (points a) (points b)) result e
+pub joined-is : (a b : Table) (result : List Point) → answerInto a b result .result ≡ 0
+    → joinedInto a b result ≡ tableOf (padded (joinPoints (pointsIn a) (pointsIn b))) (length (joinPoints (pointsIn a) (pointsIn b)))
+joined-is a b result e = table-at (joinRefusal (a .entries) (a .count) (b .entries) (b .count) (length result)) (joinPoints (pointsIn a) (pointsIn b)) result e
 
-pub joined-points : (a b : Table) (result : List Point) → answer a b result .result ≡ 0 → points (joined a b result) ≡ joinPoints (points a) (points b)
-joined-points a b result e = ap points (joined-is a b result e) ∙ points-padded (joinPoints (points a) (points b))
+pub joined-points : (a b : Table) (result : List Point) → answerInto a b result .result ≡ 0 → pointsIn (joinedInto a b result) ≡ joinPoints (pointsIn a) (pointsIn b)
+joined-points a b result e = ap pointsIn (joined-is a b result e) ∙ points-padded (joinPoints (pointsIn a) (pointsIn b))
 
 pub join-stands : (a b : List Point) → allStand a ≡ true → allStand b ≡ true → allStand (joinPoints a b) ≡ true
 join-stands a b ea eb = of-all (joinPoints a b) (join-all pictures number Stands a b (all-of a ea) (all-of b eb))
@@ -101,8 +101,8 @@ answer-at true true false l ep eq es = let z : _≡_ {A = ℕ} 0 1 = cc in absur
 answer-at true false s l ep eq es = let z : _≡_ {A = ℕ} 0 1 = cc in absurd (omega arith)
 answer-at false q s l ep eq es = let z : _≡_ {A = ℕ} 0 1 = cc in absurd (omega arith)
 
-pub answer-is : (a b : Table) (result : List Point) → Track a → Track b → length result ≡ mostPoints → answer a b result ≡ outcome (joinPoints (points a) (points b))
-answer-is a b result va vb e = answer-at _ _ _ (joinPoints (points a) (points b)) va vb (eq-eqb (length result) mostPoints e)
+pub answer-is : (a b : Table) (result : List Point) → Track a → Track b → length result ≡ mostPoints → answerInto a b result ≡ outcome (joinPoints (pointsIn a) (pointsIn b))
+answer-is a b result va vb e = answer-at _ _ _ (joinPoints (pointsIn a) (pointsIn b)) va vb (eq-eqb (length result) mostPoints e)
 
 -- ---- the point held at a number has that number
 held-by : (k : ℤ) (x y : Point) (rest : Option Point) (t : Compared Before k (number y)) → (rest ≡ some x → number x ≡ k) → heldAtBy pictures number y rest t ≡ some x → number x ≡ k

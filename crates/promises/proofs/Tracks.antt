@@ -1,6 +1,6 @@
 -- What is promised of tracks, under the customer's sentences: demand 1, demand 3, and document 01, Tracks. Of lent tables with their
--- counts, over the contracts of track::lookup, track::join and track::place (specs/Joins), and for every picture.
--- Statements only: Shown, Joining and Placing have the lemmas that show them.
+-- counts, over the contracts of track::lookup, track::join and track::place (track/specs/Lent; Tied says that they are the contracts),
+-- and for every picture. Statements only: Shown, Members, Joining and Placing have the lemmas that show them.
 use Prim.Native.Nat.{_<_}
 use mathlib.Core.Path.{_≡_}
 use mathlib.Core.List.{List}
@@ -14,49 +14,68 @@ use Rattle.keyed.proofs.Laws.{in-force-is}
 use Rattle.plan.specs.Limit.{mostPoints}
 use Rattle.plan.specs.Pictures.{Before, pictures}
 use Rattle.track.specs.declared.Point.{Point}
-use Rattle.track.specs.Track.{number, isTrack, pointInForce, pointAtNumber, noneInForce, shown, placeAnswer, placeTable}
-use Rattle.promises.specs.Joins.{Table, table, Track, points, Alike, at, startAt, isLater, answer, joined, numbersIn, leftFirst, rightFirst, EqualWhereShared, placed}
+use Rattle.track.specs.Track.{number, isTrack, pointInForce, pointAtNumber, noneInForce, shown, placeTable}
+use Rattle.track.specs.Lent.{Table, tableOf, Track, pointsIn, shownAt, startAt, answerInto, joinedInto, placingInto, placedInto}
+use Rattle.promises.specs.Joins.{Alike, Same, Greatest, AllAbove, isLater, differentNumbers, leftFirst, rightFirst, EqualWhereShared}
 use Rattle.promises.proofs.TrackLaws.{in-order}
 use Rattle.promises.proofs.Shown.{no-track-is-refused, track-shows, not-started, none-is-not-some, lookup-past, join-past, joined-track, held-in-joined, joined-shows}
-use Rattle.promises.proofs.Joining.{refused-join, done-or-fifteen, fifteen-means, fifteen-given, groupings-answer, groupings-leave, nothing-behind, nothing-before, shared-swaps, swaps-shared}
+use Rattle.promises.proofs.Members.{found-is-the-greatest, the-greatest-is-found, not-found-all-above, all-above-not-found}
+use Rattle.promises.proofs.Joining.{same-track, refused-join, done-or-fifteen, fifteen-means, fifteen-given, groupings-answer, groupings-leave, nothing-behind, nothing-before, shared-swaps, swaps-shared}
 use Rattle.promises.proofs.Placing.{refused-placing, placed-track, placed-shows-from, placed-shows-before, flag-0}
 
 -- ---- Demand 1: "A refusal returns the empty answer with every lent buffer unchanged."
 
 -- 01: "Lookup refuses only with 16"; then it shows nothing
-pub lookup-refuses-only-what-is-no-track : (t : Table) (p : ℤ) → isTrack (t .entries) (t .count) ≡ false → at t p ≡ noneInForce 16
+pub lookup-refuses-only-what-is-no-track : (t : Table) (p : ℤ) → isTrack (t .entries) (t .count) ≡ false → shownAt t p ≡ noneInForce 16
 lookup-refuses-only-what-is-no-track = no-track-is-refused
 
 -- 01: "A refused write, placing or join changes no byte or entry"; and the count is 0
-pub a-refused-join-changes-nothing : (a b : Table) (result : List Point) → (answer a b result .result ≡ 0 → ⊥) → joined a b result ≡ table result 0
+pub a-refused-join-changes-nothing : (a b : Table) (result : List Point) → (answerInto a b result .result ≡ 0 → ⊥) → joinedInto a b result ≡ tableOf result 0
 a-refused-join-changes-nothing = refused-join
 
-pub a-refused-placing-changes-nothing : (x : Point) (old : List Point) → (placeAnswer x (length old) .result ≡ 0 → ⊥)
-    → (placeTable old x ≡ old) × (placeAnswer x (length old) .count ≡ 0)
+pub a-refused-placing-changes-nothing : (x : Point) (old : List Point) → (placingInto x old .result ≡ 0 → ⊥)
+    → (placeTable old x ≡ old) × (placingInto x old .count ≡ 0)
 a-refused-placing-changes-nothing = refused-placing
 
 -- ---- 01, Tracks: "The numbers in the first count points rise strictly; the rest is ignored."
 
 -- two tables that differ past the count only give the same answers
-pub a-lookup-ignores-what-lies-past : (s t : Table) (p : ℤ) → Alike s t → at s p ≡ at t p
+pub a-lookup-ignores-what-lies-past : (s t : Table) (p : ℤ) → Alike s t → shownAt s p ≡ shownAt t p
 a-lookup-ignores-what-lies-past = lookup-past
 
 pub a-join-ignores-what-lies-past : (a b s t : Table) (result : List Point) → Alike a s → Alike b t
-    → (answer a b result ≡ answer s t result) × (joined a b result ≡ joined s t result)
+    → (answerInto a b result ≡ answerInto s t result) × (joinedInto a b result ≡ joinedInto s t result)
 a-join-ignores-what-lies-past = join-past
 
 -- ---- 01, Tracks: "In force at picture p: the record of the point with the greatest number not above p, or nothing."
 
 -- a lookup in a track shows the record of the point in force, or nothing
-pub a-track-shows-what-is-in-force : (t : Table) (p : ℤ) → Track t → at t p ≡ shown (pointInForce p (points t))
+pub a-track-shows-what-is-in-force : (t : Table) (p : ℤ) → Track t → shownAt t p ≡ shown (pointInForce p (pointsIn t))
 a-track-shows-what-is-in-force = track-shows
 
 -- and that point is the one with the greatest number not above p; nothing is in force where every number is above p
-pub in-force-is-the-greatest-not-above : (t : Table) (p : ℤ) → Track t → InForceAt pictures number p (points t) (pointInForce p (points t))
-in-force-is-the-greatest-not-above t p v = in-force-is pictures number p (points t) (in-order t v)
+pub in-force-is-the-greatest-not-above : (t : Table) (p : ℤ) → Track t → InForceAt pictures number p (pointsIn t) (pointInForce p (pointsIn t))
+in-force-is-the-greatest-not-above t p v = in-force-is pictures number p (pointsIn t) (in-order t v)
 
--- "a track with no such point has not started at p": there it shows nothing
-pub not-started-shows-nothing : (t : Table) (p : ℤ) → Track t → startAt t p ≡ none → at t p ≡ noneInForce 0
+-- the same of the table by membership, both ways. What is shown is the record of one of the track's points: its number is not above p,
+-- and no other such number is greater
+pub what-is-shown-is-the-greatest-not-above : (t : Table) (p : ℤ) → Track t → shownAt t p .found ≡ true
+    → (x : Point) × Greatest t p x × (shownAt t p ≡ record { result = 0; found = true; «record» = x .«record» })
+what-is-shown-is-the-greatest-not-above = found-is-the-greatest
+
+-- and where a point is that, its record is shown
+pub the-greatest-not-above-is-shown : (t : Table) (p : ℤ) → Track t → (x : Point) → Greatest t p x → shownAt t p ≡ record { result = 0; found = true; «record» = x .«record» }
+the-greatest-not-above-is-shown = the-greatest-is-found
+
+-- nothing is shown exactly if every number is above p
+pub nothing-shown-means-all-above : (t : Table) (p : ℤ) → Track t → shownAt t p .found ≡ false → AllAbove t p
+nothing-shown-means-all-above = not-found-all-above
+
+pub all-above-shows-nothing : (t : Table) (p : ℤ) → Track t → AllAbove t p → shownAt t p ≡ noneInForce 0
+all-above-shows-nothing = all-above-not-found
+
+-- "a track with no such point has not started at p": where its start is none, a lookup answers "nothing"
+pub not-started-shows-nothing : (t : Table) (p : ℤ) → Track t → startAt t p ≡ none → shownAt t p ≡ noneInForce 0
 not-started-shows-nothing = not-started
 
 -- "'Nothing' is a different answer from a record with no blocks", and from any other record
@@ -65,53 +84,53 @@ nothing-is-no-record = none-is-not-some
 
 -- ---- 01, Tracks: "A valid record placed at a picture makes, in a lent table, a track of one point; with the flag 0 it makes the empty track."
 
-module _ (x : Point) (old : List Point) (is-done : placeAnswer x (length old) .result ≡ 0) where
+module _ (x : Point) (old : List Point) (is-done : placingInto x old .result ≡ 0) where
   -- a placing that is done makes a track
-  pub a-placing-is-a-track : Track (placed x old)
+  pub a-placing-is-a-track : Track (placedInto x old)
   a-placing-is-a-track = placed-track x old is-done
 
   -- with the flag 1 it shows the point's record from its picture on
-  pub a-placed-record-shows-from-its-picture-on : x .«record» .refresh ≡ true → (p : ℤ) → NotAbove pictures (x .picture) p → at (placed x old) p ≡ shown (some x)
+  pub a-placed-record-shows-from-its-picture-on : x .«record» .refresh ≡ true → (p : ℤ) → NotAbove pictures (x .picture) p → shownAt (placedInto x old) p ≡ shown (some x)
   a-placed-record-shows-from-its-picture-on = placed-shows-from x old is-done
 
   -- and nothing before it
-  pub a-placed-record-shows-nothing-before : x .«record» .refresh ≡ true → (p : ℤ) → Before p (x .picture) → at (placed x old) p ≡ noneInForce 0
+  pub a-placed-record-shows-nothing-before : x .«record» .refresh ≡ true → (p : ℤ) → Before p (x .picture) → shownAt (placedInto x old) p ≡ noneInForce 0
   a-placed-record-shows-nothing-before = placed-shows-before x old is-done
 
   -- with the flag 0 it makes the empty track, which shows nothing at any picture
-  pub flag-0-makes-the-empty-track : x .«record» .refresh ≡ false → (placed x old .count ≡ 0) × ((p : ℤ) → at (placed x old) p ≡ noneInForce 0)
+  pub flag-0-makes-the-empty-track : x .«record» .refresh ≡ false → (placedInto x old .count ≡ 0) × ((p : ℤ) → shownAt (placedInto x old) p ≡ noneInForce 0)
   flag-0-makes-the-empty-track = flag-0 x old is-done
 
 -- ---- 01, Tracks: "Join takes two tracks and a third table for the result: every number of either, in rising order, with the second
 -- track's record where both hold the number."
 
 -- a join that is done makes a track, so its numbers rise
-pub a-join-is-a-track : (a b : Table) (result : List Point) → answer a b result .result ≡ 0 → Track (joined a b result)
+pub a-join-is-a-track : (a b : Table) (result : List Point) → answerInto a b result .result ≡ 0 → Track (joinedInto a b result)
 a-join-is-a-track = joined-track
 
 -- it holds every number of either track, with the second's point where both hold the number, and no other
-pub a-join-holds-every-number : (a b : Table) (result : List Point) (k : ℤ) → answer a b result .result ≡ 0
-    → pointAtNumber k (points (joined a b result)) ≡ orElse (pointAtNumber k (points b)) (pointAtNumber k (points a))
+pub a-join-holds-every-number : (a b : Table) (result : List Point) (k : ℤ) → answerInto a b result .result ≡ 0
+    → pointAtNumber k (pointsIn (joinedInto a b result)) ≡ orElse (pointAtNumber k (pointsIn b)) (pointAtNumber k (pointsIn a))
 a-join-holds-every-number = held-in-joined
 
 -- ---- Demand 3: "At every picture, two valid tracks joined show the record in force in whichever has the later or only start there, the
 -- second's if both start together, nothing if neither has started."
 
 -- what the first shows where its start is the later or only one, and else what the second shows
-pub a-join-shows-the-later-start : (a b : Table) (result : List Point) (p : ℤ) → answer a b result .result ≡ 0
-    → at (joined a b result) p ≡ cond (isLater (startAt a p) (startAt b p)) (at a p) (at b p)
+pub a-join-shows-the-later-start : (a b : Table) (result : List Point) (p : ℤ) → answerInto a b result .result ≡ 0
+    → shownAt (joinedInto a b result) p ≡ cond (isLater (startAt a p) (startAt b p)) (shownAt a p) (shownAt b p)
 a-join-shows-the-later-start = joined-shows
 
 -- ---- Demand 3: "Given result tables of the right size, a join is refused exactly when more than 64 different picture numbers result,"
 
 module _ (a b : Table) (result : List Point) (va : Track a) (vb : Track b) (whole : length result ≡ mostPoints) where
-  pub a-join-of-tracks-is-done-or-15 : answer a b result .result ≡ cond (leb (numbersIn a b) mostPoints) 0 15
+  pub a-join-of-tracks-is-done-or-15 : answerInto a b result .result ≡ cond (leb (differentNumbers a b) mostPoints) 0 15
   a-join-of-tracks-is-done-or-15 = done-or-fifteen a b result va vb whole
 
-  pub fifteen-means-more-than-64 : answer a b result .result ≡ 15 → mostPoints < numbersIn a b
+  pub fifteen-means-more-than-64 : answerInto a b result .result ≡ 15 → mostPoints < differentNumbers a b
   fifteen-means-more-than-64 = fifteen-means a b result va vb whole
 
-  pub more-than-64-gives-fifteen : mostPoints < numbersIn a b → answer a b result .result ≡ 15
+  pub more-than-64-gives-fifteen : mostPoints < differentNumbers a b → answerInto a b result .result ≡ 15
   more-than-64-gives-fifteen = fifteen-given a b result va vb whole
 
 -- ---- Demand 3: "and joining three gives the same track in both groupings or is refused in both."
@@ -122,26 +141,33 @@ module _ (a b c : Table) (va : Track a) (vb : Track b) (vc : Track c) (s t u v :
   both-groupings-answer-the-same = groupings-answer a b c va vb vc s t u v es et eu ev
 
   -- and, where they are done, the same table to the last entry
-  pub both-groupings-leave-the-same : leftFirst a b c s t .result ≡ 0 → joined (joined a b s) c t ≡ joined a (joined b c u) v
+  pub both-groupings-leave-the-same : leftFirst a b c s t .result ≡ 0 → joinedInto (joinedInto a b s) c t ≡ joinedInto a (joinedInto b c u) v
   both-groupings-leave-the-same = groupings-leave a b c va vb vc s t u v es et eu ev
+
+  -- so the same track
+  pub both-groupings-give-the-same-track : leftFirst a b c s t .result ≡ 0 → Same (joinedInto (joinedInto a b s) c t) (joinedInto a (joinedInto b c u) v)
+  both-groupings-give-the-same-track e = same-track _ _ (both-groupings-leave-the-same e)
 
 -- ---- Demand 3: "An empty track changes nothing."
 
 module _ (a e : Table) (result : List Point) (va : Track a) (ve : Track e) (none-there : e .count ≡ 0) (whole : length result ≡ mostPoints) where
   -- joined behind a track
-  pub nothing-behind-changes-nothing : (answer a e result ≡ record { result = 0; count = a .count }) × (points (joined a e result) ≡ points a)
+  pub nothing-behind-changes-nothing : (answerInto a e result ≡ record { result = 0; count = a .count }) × Same (joinedInto a e result) a
   nothing-behind-changes-nothing = nothing-behind a e result va ve none-there whole
 
   -- joined before it
-  pub nothing-before-changes-nothing : (answer e a result ≡ record { result = 0; count = a .count }) × (points (joined e a result) ≡ points a)
+  pub nothing-before-changes-nothing : (answerInto e a result ≡ record { result = 0; count = a .count }) × Same (joinedInto e a result) a
   nothing-before-changes-nothing = nothing-before a e result va ve none-there whole
 
 -- ---- 01, Tracks: "If a join fits, swapping its two tracks gives the same track exactly when both hold equal records at every number that
 -- they share."
 
-module _ (a b : Table) (result : List Point) (fit : answer a b result .result ≡ 0) where
-  pub equal-where-shared-swaps : EqualWhereShared a b → (answer b a result ≡ answer a b result) × (joined b a result ≡ joined a b result)
+module _ (a b : Table) (result : List Point) (fit : answerInto a b result .result ≡ 0) where
+  pub equal-where-shared-swaps : EqualWhereShared a b → (answerInto b a result ≡ answerInto a b result) × (joinedInto b a result ≡ joinedInto a b result)
   equal-where-shared-swaps = shared-swaps a b result fit
 
-  pub swapping-shows-them-equal : answer b a result .result ≡ 0 → points (joined b a result) ≡ points (joined a b result) → EqualWhereShared a b
+  pub swapping-gives-the-same-track : EqualWhereShared a b → Same (joinedInto b a result) (joinedInto a b result)
+  swapping-gives-the-same-track h = same-track _ _ (shared-swaps a b result fit h .1)
+
+  pub swapping-shows-them-equal : answerInto b a result .result ≡ 0 → Same (joinedInto b a result) (joinedInto a b result) → EqualWhereShared a b
   swapping-shows-them-equal = swaps-shared a b result fit

@@ -16,7 +16,9 @@ use Rattle.syntax.specs.Element.{payload, bitsOfData}
 use Rattle.syntax.specs.Largest.{largest}
 use Rattle.syntax.specs.Wrapper.{wrappedPayload}
 use Rattle.syntax.proofs.Largest.{no-payload-is-longer, largest-length, largest-proper}
-use Rattle.promises.specs.Functions.{readBare, readWrapped, writeBare, bareBuffer, writeWrapped, wrappedBuffer}
+use Rattle.reader.specs.Reading.{readBare}
+use Rattle.writer.specs.Writing.{writeBare, bareBuffer}
+use Rattle.wrapper.specs.Wrapper.{readWrapped, writeWrapped, wrappedBuffer}
 use Rattle.promises.proofs.Reading.{accepted-means-the-one-payload, every-valid-record-is-read, accepted-wrapped-means-the-one-payload, every-valid-record-is-read-wrapped}
 
 -- a record that is not valid is refused with 14, whatever the room, and no byte changes

@@ -1,53 +1,47 @@
--- Lent tables with their counts, and what the contracts of track::lookup, track::join and track::place say of them.
+-- Joins of lent tables: what the promises say of them beyond the entry points' answers (track/specs/Lent).
 use Prim.Native.Nat.{ℕ}
 use mathlib.Core.Path.{_≡_}
 use mathlib.Core.Bool.{Bool, true, false, cond}
-use mathlib.Core.List.{List, _++_, map}
+use mathlib.Core.List.{List, [], _∷_, _++_, map}
+use mathlib.Core.Logic.{_⊎_}
 use mathlib.Core.Option.{Option, none, some}
 use lib.Dec.{eqb}
 use lib.IntN.{ℤ}
 use lib.Signed.{ltZ}
 use lib.ListN.{length}
-use Rattle.keyed.specs.Keyed.{different}
-use Rattle.plan.specs.Pictures.{pictures}
+use Rattle.keyed.specs.Keyed.{different, NotAbove}
+use Rattle.plan.specs.Pictures.{Before, pictures}
 use Rattle.track.specs.declared.Point.{Point}
 use Rattle.track.specs.declared.Joined.{Joined}
-use Rattle.track.specs.declared.InForce.{InForce}
-use Rattle.track.specs.Track.{number, isTrack, lookupAnswer, joinAnswer, joinTable, placeAnswer, placeTable, pointsOf, pointInForce, pointAtNumber}
-
--- a lent table with its count
-pub record Table : Type 0 where
-  pub entries : List Point
-  pub count : ℕ
-
-abbrev pub table : List Point → ℕ → Table
-table entries count = record { entries = entries; count = count }
-
--- the table and the count are a track
-abbrev pub Track : Table → Type 0
-Track t = isTrack (t .entries) (t .count) ≡ true
-
--- its points: what lies past the count is ignored
-abbrev pub points : Table → List Point
-points t = pointsOf (t .entries) (t .count)
+use Rattle.track.specs.Track.{number, pointAtNumber}
+use Rattle.track.specs.Lent.{Table, pointsIn, answerInto, joinedInto}
 
 -- two tables of one length, with one count and the same points: they differ in what lies past the count, if at all
 pub record Alike (s t : Table) : Type 0 where
   pub length-same : length (s .entries) ≡ length (t .entries)
   pub count-same : s .count ≡ t .count
-  pub points-same : points s ≡ points t
+  pub points-same : pointsIn s ≡ pointsIn t
 
--- what a lookup answers
-abbrev pub at : Table → ℤ → InForce
-at t picture = lookupAnswer (t .entries) (t .count) picture
+-- two tracks are the same: one count, and the same points
+pub record Same (s t : Table) : Type 0 where
+  pub same-count : s .count ≡ t .count
+  pub same-points : pointsIn s ≡ pointsIn t
 
-abbrev pub numberIn : Option Point → Option ℤ
-numberIn none = none
-numberIn (some x) = some (number x)
+-- x is one of the points
+infix 50 _∈_
+abbrev pub _∈_ : Point → List Point → Type 0
+x ∈ [] = ⊥
+x ∈ (y ∷ ys) = (x ≡ y) ⊎ (x ∈ ys)
 
--- a track's start at a picture: the number of the point in force there; a track with no such point has not started
-abbrev pub startAt : Table → ℤ → Option ℤ
-startAt t picture = numberIn (pointInForce picture (points t))
+-- of the track's points x is the one with the greatest number not above the picture
+pub record Greatest (t : Table) (picture : ℤ) (x : Point) : Type 0 where
+  pub is-a-point : x ∈ pointsIn t
+  pub not-above : NotAbove pictures (number x) picture
+  pub none-is-greater : (y : Point) → y ∈ pointsIn t → NotAbove pictures (number y) picture → NotAbove pictures (number y) (number x)
+
+-- every number of the track is above the picture
+abbrev pub AllAbove : Table → ℤ → Type 0
+AllAbove t picture = (y : Point) → y ∈ pointsIn t → Before picture (number y)
 
 -- the first of two starts is the later or the only one
 abbrev pub isLater : Option ℤ → Option ℤ → Bool
@@ -55,17 +49,9 @@ isLater none v = false
 isLater (some x) none = true
 isLater (some x) (some y) = ltZ y x
 
--- what a join of a and b into a lent table answers
-abbrev pub answer : Table → Table → List Point → Joined
-answer a b result = joinAnswer (a .entries) (a .count) (b .entries) (b .count) (length result)
-
--- the lent table afterwards, with the count that was answered
-abbrev pub joined : Table → Table → List Point → Table
-joined a b result = table (joinTable result (a .entries) (a .count) (b .entries) (b .count)) (answer a b result .count)
-
 -- how many different picture numbers two tracks have
-abbrev pub numbersIn : Table → Table → ℕ
-numbersIn a b = different pictures (map number (points a) ++ map number (points b))
+abbrev pub differentNumbers : Table → Table → ℕ
+differentNumbers a b = different pictures (map number (pointsIn a) ++ map number (pointsIn b))
 
 -- two joins in turn: the second is made where the first is done
 abbrev pub inTurn : Joined → Joined → Joined
@@ -73,16 +59,12 @@ inTurn x y = cond (eqb (x .result) 0) y x
 
 -- a and b first, into s, then with c, into t
 abbrev pub leftFirst : Table → Table → Table → List Point → List Point → Joined
-leftFirst a b c s t = inTurn (answer a b s) (answer (joined a b s) c t)
+leftFirst a b c s t = inTurn (answerInto a b s) (answerInto (joinedInto a b s) c t)
 
 -- b and c first, into s, then with a, into t
 abbrev pub rightFirst : Table → Table → Table → List Point → List Point → Joined
-rightFirst a b c s t = inTurn (answer b c s) (answer a (joined b c s) t)
+rightFirst a b c s t = inTurn (answerInto b c s) (answerInto a (joinedInto b c s) t)
 
 -- both hold equal records at every number that they share
 abbrev pub EqualWhereShared : Table → Table → Type 0
-EqualWhereShared a b = (k : ℤ) (x y : Point) → pointAtNumber k (points a) ≡ some x → pointAtNumber k (points b) ≡ some y → x .«record» ≡ y .«record»
-
--- the lent table after a placing, with the count that was answered
-abbrev pub placed : Point → List Point → Table
-placed x old = table (placeTable old x) (placeAnswer x (length old) .count)
+EqualWhereShared a b = (k : ℤ) (x y : Point) → pointAtNumber k (pointsIn a) ≡ some x → pointAtNumber k (pointsIn b) ≡ some y → x .«record» ≡ y .«record»

@@ -1,16 +1,17 @@
 -- What reading answers, and on the way to it; and the table as far as the last block.
 use Prim.Native.Nat.{ℕ}
-use mathlib.Core.List.{[]}
+use mathlib.Core.List.{List, []}
 use mathlib.Core.Bool.{true, false}
 use Rattle.refusals.specs.declared.Refusal.{Refusal}
 use Rattle.refusals.specs.Refusals.{refusal}
+use Rattle.tree.specs.Bits.{bitsOf}
 use Rattle.tree.specs.Reading.{numberIn, Out, ok, no}
 use Rattle.tree.specs.Syntax.{Syntax, done, _>>=_}
 use Rattle.record.specs.declared.Record.{Record}
 use Rattle.record.specs.Name.{Name}
 use Rattle.record.specs.Made.{recordOf}
 use Rattle.record.specs.Blocks.{emptyRecord}
-use Rattle.syntax.specs.Data.{blocksAfter}
+use Rattle.syntax.specs.Data.{blocksAfter, bareData}
 use Rattle.head.specs.Opening.{opening}
 use Rattle.reader.specs.declared.Found.{Found}
 use Rattle.reader.specs.declared.Reading.{Reading}
@@ -22,6 +23,10 @@ refusedReading k = record { result = k; bits = 0; «record» = emptyRecord }
 abbrev pub readingOf : Out Name Record → Reading
 readingOf (ok r n) = record { result = 0; bits = n; «record» = r }
 readingOf (no f) = refusedReading (numberIn f)
+
+-- what read_data answers
+abbrev pub readBare : List ℕ → Reading
+readBare s = readingOf (bareData (bitsOf s))
 
 -- no refusal
 abbrev pub nothingWrong : Refusal

@@ -13,8 +13,8 @@ ghost use Rattle.tree.specs.Reading.{ok, mapped};
 ghost use Rattle.tree.specs.Syntax.{read};
 ghost use Rattle.record.specs.Made.{recordOf};
 ghost use Rattle.record.specs.Blocks.{mostBlocks};
-ghost use Rattle.syntax.specs.Data.{blocksAfter, «ST2094-10_data», bareData};
-ghost use Rattle.reader.specs.Reading.{readingOf, foundOf, refusedFound, headAndBlocks};
+ghost use Rattle.syntax.specs.Data.{blocksAfter, «ST2094-10_data»};
+ghost use Rattle.reader.specs.Reading.{readBare, foundOf, refusedFound, headAndBlocks};
 
 // A record that was found and how many bits it took, or why there is none.
 struct Found {
@@ -125,7 +125,7 @@ fn read_whole_bytes(s: &[u8]) -> Found
 
 // Reads bare data: any bytes get an answer.
 pub fn read_data(input: &[u8]) -> Reading
-    ensures { λ r. ⌜ r ≡ readingOf (bareData (bitsOf (now (input .entry)))) ⌝ }
+    ensures { λ r. ⌜ r ≡ readBare (now (input .entry)) ⌝ }
 {
     let data = read_whole_bytes(input);
     let record = data.record;

@@ -1,12 +1,31 @@
--- What the functions of the wrapper answer on the way.
+-- What the functions of the wrapper answer, and on the way to it.
+use Prim.Native.Nat.{ℕ}
+use mathlib.Core.List.{List}
 use mathlib.Core.Bool.{Bool, cond}
 use Rattle.refusals.specs.Refusals.{refusal, unfitOutput, notValid}
+use Rattle.tree.specs.Bits.{bitsOf}
 use Rattle.tree.specs.Reading.{numberIn, Out, ok, no}
 use Rattle.output.specs.declared.Written.{Written}
-use Rattle.output.specs.Output.{written}
+use Rattle.output.specs.Output.{written, writtenAs, bufferAs}
+use Rattle.record.specs.declared.Record.{Record}
 use Rattle.record.specs.Name.{Name}
+use Rattle.valid.specs.Valid.{valid}
+use Rattle.syntax.specs.Wrapper.{wrappedData, wrappedPayload}
+use Rattle.reader.specs.declared.Reading.{Reading}
+use Rattle.reader.specs.Reading.{readingOf}
 use Rattle.wrapper.specs.declared.Wrapper.{Wrapper}
 use Rattle.wrapper.specs.declared.Wrapper.the-variants.{There, Refused}
+
+-- read_wrapped
+abbrev pub readWrapped : List ℕ → Reading
+readWrapped s = readingOf (wrappedData (bitsOf s))
+
+-- write_wrapped: the answer, and the buffer afterwards
+abbrev pub writeWrapped : Record → List ℕ → Written
+writeWrapped r out = writtenAs (wrappedPayload r) (valid r) out
+
+abbrev pub wrappedBuffer : Record → List ℕ → List ℕ
+wrappedBuffer r out = bufferAs (wrappedPayload r) (valid r) out
 
 -- the wrapper's bytes are there, or why not
 abbrev pub wrapperOf : Out Name (Unit {0}) → Wrapper

@@ -10,14 +10,12 @@ ghost use lib.ListN.{length, getD, drop};
 ghost use Rattle.tree.specs.Bits.{bitsOf};
 ghost use Rattle.tree.specs.Syntax.{read};
 ghost use Rattle.tree.specs.Wrapper.{wrapperTable};
-ghost use Rattle.output.specs.Output.{writtenAs, bufferAs};
 ghost use Rattle.record.specs.Name.{«wrapper»};
-ghost use Rattle.valid.specs.Valid.{valid};
 ghost use Rattle.syntax.specs.Element.{payload};
 ghost use Rattle.syntax.specs.Largest.{largest};
-ghost use Rattle.syntax.specs.Wrapper.{wrapperBytes, wrappedData, wrappedPayload};
-ghost use Rattle.reader.specs.Reading.{readingOf, refusedReading};
-ghost use Rattle.wrapper.specs.Wrapper.{wrapperOf, withoutRoom};
+ghost use Rattle.syntax.specs.Wrapper.{wrapperBytes, wrappedPayload};
+ghost use Rattle.reader.specs.Reading.{refusedReading};
+ghost use Rattle.wrapper.specs.Wrapper.{readWrapped, writeWrapped, wrappedBuffer, wrapperOf, withoutRoom};
 
 // How many bytes the wrapper has.
 const WRAPPER_BYTES: usize = 8;
@@ -83,7 +81,7 @@ fn refused(why: Refusal) -> Reading
 
 // Reads wrapped data: any bytes get an answer.
 pub fn read_wrapped(input: &[u8]) -> Reading
-    ensures { λ r. ⌜ r ≡ readingOf (wrappedData (bitsOf (now (input .entry)))) ⌝ }
+    ensures { λ r. ⌜ r ≡ readWrapped (now (input .entry)) ⌝ }
 {
     match check_wrapper(input) {
         Wrapper::Refused { why } => refused(why),
@@ -125,8 +123,8 @@ fn without_room(good: bool) -> Written
 // Writes wrapped data: any record and any buffer get an answer. The data comes first, since only its writer knows whether there is
 // room for it; where that refuses, no byte has changed.
 pub fn write_wrapped(r: Record, out: &mut [u8]) -> Written
-    ensures result { λ w. ⌜ w ≡ writtenAs (wrappedPayload r) (valid r) (now (out .entry)) ⌝ }
-    ensures buffer { λ w. ⌜ now (out .exit) ≡ bufferAs (wrappedPayload r) (valid r) (now (out .entry)) ⌝ }
+    ensures result { λ w. ⌜ w ≡ writeWrapped r (now (out .entry)) ⌝ }
+    ensures buffer { λ w. ⌜ now (out .exit) ≡ wrappedBuffer r (now (out .entry)) ⌝ }
 {
     if out.len() < WRAPPER_BYTES {
         return without_room(valid::is_valid(r));

@@ -12,12 +12,12 @@ use Rattle.record.specs.declared.Record.{Record}
 use Rattle.valid.specs.Valid.{valid}
 use Rattle.syntax.specs.Element.{payload}
 
--- bare data
-abbrev pub writtenOf : Record → List ℕ → Written
-writtenOf r out = writtenAs (payload r) (valid r) out
+-- write_data: the answer, and the buffer afterwards
+abbrev pub writeBare : Record → List ℕ → Written
+writeBare r out = writtenAs (payload r) (valid r) out
 
-abbrev pub bufferAfter : Record → List ℕ → List ℕ
-bufferAfter r out = bufferAs (payload r) (valid r) out
+abbrev pub bareBuffer : Record → List ℕ → List ℕ
+bareBuffer r out = bufferAs (payload r) (valid r) out
 
 -- metadata_refresh_flag, and if it is 1, num_ext_blocks
 abbrev pub flagCode : Bool → ℕ → List Bool

@@ -19,7 +19,7 @@ ghost use Rattle.record.specs.Level.{level, codings, levelOf, valuesOf};
 ghost use Rattle.record.specs.Blocks.{mostBlocks, allBlocks, blocks, inRange};
 ghost use Rattle.valid.specs.Valid.{valid};
 ghost use Rattle.syntax.specs.Element.{headElements, openElements, blockElements, blocksElements, elements, payload, bitsOfData};
-ghost use Rattle.writer.specs.Writing.{writtenOf, bufferAfter, flagCode};
+ghost use Rattle.writer.specs.Writing.{writeBare, bareBuffer, flagCode};
 
 // How many zero bits lead from bit n to the next byte boundary.
 fn to_boundary(n: usize) -> usize
@@ -261,8 +261,8 @@ fn put_payload(out: &mut [u8], r: Record) -> Pen
 
 // Writes bare data: any record and any buffer get an answer.
 pub fn write_data(r: Record, out: &mut [u8]) -> Written
-    ensures result { λ w. ⌜ w ≡ writtenOf r (now (out .entry)) ⌝ }
-    ensures buffer { λ w. ⌜ now (out .exit) ≡ bufferAfter r (now (out .entry)) ⌝ }
+    ensures result { λ w. ⌜ w ≡ writeBare r (now (out .entry)) ⌝ }
+    ensures buffer { λ w. ⌜ now (out .exit) ≡ bareBuffer r (now (out .entry)) ⌝ }
 {
     if valid::is_valid(r) {
         let n = bytes_needed(r);

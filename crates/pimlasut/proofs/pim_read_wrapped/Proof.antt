@@ -2,7 +2,7 @@
 use mathlib.Core.Path.{refl}
 use borrow.Author.Tests.{ne-eqb}
 use lib.ListN.{length}
-use Rattle.promises.specs.Functions.{readWrapped}
+use Rattle.wrapper.specs.Wrapper.{readWrapped}
 use Rattle.flat.specs.Flat.{flatLength}
 use Rattle.pimlasut.specs.Boundary.{isRecord}
 use Rattle.pimlasut.proofs.Laws.{wrong, given-reading}

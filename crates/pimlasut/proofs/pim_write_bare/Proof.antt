@@ -4,7 +4,7 @@ use native.Mathlib.Omega.{arith}
 use mathlib.Core.List.{[]}
 use borrow.Author.Tests.{ne-eqb}
 use lib.ListN.{length}
-use Rattle.promises.specs.Functions.{writeBare}
+use Rattle.writer.specs.Writing.{writeBare}
 use Rattle.flat.specs.Flat.{flatLength, recordIn}
 use Rattle.pimlasut.specs.Boundary.{isRecord}
 use Rattle.pimlasut.proofs.Laws.{wrong, few-written, given-written}

@@ -4,7 +4,7 @@ use native.Mathlib.Omega.{arith}
 use borrow.Author.Tests.{ne-eqb}
 use lib.ListN.{length}
 use Rattle.syntax.specs.Wrapper.{wrapperBytes}
-use Rattle.promises.specs.Functions.{writeWrapped}
+use Rattle.wrapper.specs.Wrapper.{writeWrapped}
 use Rattle.flat.specs.Flat.{flatLength, recordIn}
 use Rattle.pimlasut.specs.Boundary.{isRecord}
 use Rattle.pimlasut.proofs.Laws.{wrong, few-written, given-written}
