@@ -4,7 +4,7 @@ use mathlib.Core.Path.{_≡_, refl, ap, sym, _∙_}
 use mathlib.Core.List.{List, map}
 use mathlib.Core.Bool.{Bool, true, false, cond}
 use native.Mathlib.Omega.{arith}
-use native.Mathlib.Nat.{add-zero, add-assoc}
+use native.Mathlib.Nat.{add-zero}
 use borrow.Author.Tests.{eq-eqb, ne-eqb}
 use lib.Dec.{eqb}
 use lib.IntN.{ℤ, pos}
@@ -19,12 +19,11 @@ use Rattle.tree.specs.Meaning.{Element, sumOfWidths, complete, Follow, Means}
 use Rattle.tree.proofs.Codes.{no-not-ok}
 use Rattle.tree.proofs.Elements.{codes-ue, length-ue, zeros-few}
 use Rattle.tree.proofs.Meaning.{widths-append, every-answer-is-true}
-use Rattle.tree.proofs.Tables.{read-then}
+use Rattle.tree.proofs.Tables.{read-then, then-same, then-then}
 use Rattle.tree.proofs.Spells.{apart-complete, any-only, must-only, done-only, row-only, zeros-only}
 use Rattle.tree.proofs.Steps.{read-any}
 use Rattle.tree.proofs.Widths.{widths-fields, variable-width}
 use Rattle.tree.proofs.Accepted.{widths-zeros}
-use Rattle.bits.proofs.Reading.{widened-twice}
 use Rattle.record.specs.declared.Block.{Block}
 use Rattle.record.specs.declared.Block.the-variants.{Nothing, Level1, Level2, Level5}
 use Rattle.record.specs.Name.{Name, «ext_block_length», «ext_block_level», «ext_dm_alignment_zero_bit»}
@@ -157,28 +156,6 @@ takes-after-length start n at es b h =
     takes-element contentBits 8 «ext_block_level» (fixed (unsigned 8)) (body start at n) (λ z q. omega arith) (takes-body start at n) at es b h
 
 -- ---- the order of level 1, right behind the zero bits
-
-module _ {A B : Type 0} (p : Syntax Name A) where
-  -- what follows, in other words
-  then-same : (g k : A → Syntax Name B) → ((a : A) (at : ℕ) (s : List Bool) → read (g a) at s ≡ read (k a) at s) → (at : ℕ) (s : List Bool) → read (p >>= g) at s ≡ read (p >>= k) at s
-  then-same g k h at s = read-then p g at s ∙ go (read p at s) ∙ sym (read-then p k at s)
-    where
-      go : (o : Out Name A) → andThen o (λ a. read (g a)) at s ≡ andThen o (λ a. read (k a)) at s
-      go (ok a n) = ap (widened n) (h a (at + n) (drop n s))
-      go (no f) = refl
-
-  -- three in a row
-  then-then : {C : Type 0} (g : A → Syntax Name B) (k : B → Syntax Name C) (at : ℕ) (s : List Bool) → read (p >>= g >>= k) at s ≡ read (p >>= λ a. g a >>= k) at s
-  then-then {C} g k at s =
-      read-then (p >>= g) k at s ∙ ap (λ (o : Out Name B). andThen o (λ b. read (k b)) at s) (read-then p g at s) ∙ go (read p at s) ∙ sym (read-then p (λ a. g a >>= k) at s)
-    where
-      deep : (n : ℕ) (o : Out Name B) → andThen (widened n o) (λ b. read (k b)) at s ≡ widened n (andThen o (λ b. read (k b)) (at + n) (drop n s))
-      deep n (ok b m) = rw (drop-drop m n s, add-assoc at n m) (sym (widened-twice n m (read (k b) (at + (n + m)) (drop (n + m) s))))
-      deep n (no f) = refl
-
-      go : (o : Out Name A) → andThen (andThen o (λ a. read (g a)) at s) (λ b. read (k b)) at s ≡ andThen o (λ a. read (g a >>= k)) at s
-      go (ok a n) = deep n (read (g a) (at + n) (drop n s)) ∙ ap (widened n) (sym (read-then (g a) k (at + n) (drop n s)))
-      go (no f) = refl
 
 module _ (start : ℕ) where
   zeros-ordered : (l : ℕ) (b : Block) (at : ℕ) (s : List Bool) → read (zeroBits «ext_dm_alignment_zero_bit» (padding l) >>= (λ z. done b) >>= ordered start) at s ≡ read (afterFields start l b) at s

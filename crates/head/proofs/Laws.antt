@@ -19,7 +19,7 @@ use Rattle.tree.specs.Meaning.{Element, sumOfWidths, complete, Follow, Means}
 use Rattle.tree.proofs.Truth.{clash, range-of-one}
 use Rattle.tree.proofs.Elements.{codes-ue, length-ue, zeros-few}
 use Rattle.tree.proofs.Meaning.{every-answer-is-true}
-use Rattle.tree.proofs.Tables.{read-then}
+use Rattle.tree.proofs.Tables.{read-then, then-no}
 use Rattle.tree.proofs.Steps.{read-any, read-ranged}
 use Rattle.tree.proofs.Spells.{joined, alone, apart-complete, any-only, ranged-only, done-only, zeros-only}
 use Rattle.tree.proofs.Accepted.{widths-zeros}
@@ -154,9 +154,6 @@ ranged-no name k low high g at s f e = read-ranged name variable k low high g at
 
 any-no : (name : Name) (n : ℕ) (g : ℤ → Syntax Name Head) (at : ℕ) (s : List Bool) (f : Fault Name) → u name n at s ≡ no f → read (any name (fixed (unsigned n)) >>= g) at s ≡ no f
 any-no name n g at s f e = read-any name (fixed (unsigned n)) g at s ∙ rw e refl
-
-then-no : {A : Type 0} (p : Syntax Name A) (g : A → Syntax Name Head) (at : ℕ) (s : List Bool) (f : Fault Name) → read p at s ≡ no f → read (p >>= g) at s ≡ no f
-then-no p g at s f e = read-then p g at s ∙ rw e refl
 
 -- a ue(v) element of one value alone
 module _ (name : Name) (k x : ℕ) (p : Syntax Name Head) (at : ℕ) (bits : List Bool) where

@@ -4,23 +4,23 @@ use mathlib.Core.Path.{_≡_, refl, ap, sym, _∙_}
 use mathlib.Core.List.{List, [], _∷_, _++_, append-assoc, append-nil}
 use mathlib.Core.Bool.{Bool, true, false}
 use native.Mathlib.Omega.{arith}
-use native.Mathlib.Nat.{zero-add, add-zero, add-assoc}
+use native.Mathlib.Nat.{zero-add, add-zero}
 use borrow.Author.Tests.{eq-eqb, ne-eqb}
 use lib.ListN.{length, take, drop, length-append}
 use lib.Seq.{drop-drop}
 use Rattle.refusals.specs.Refusals.{refusal, repeated, bytesRemain}
 use Rattle.refusals.specs.declared.Refusal.{Refusal}
 use Rattle.tree.specs.Codes.{halvings}
-use Rattle.tree.specs.Reading.{Fault, numberIn, breaks, Out, ok, no, widened, andThen, mapped, toBoundary}
+use Rattle.tree.specs.Reading.{Fault, numberIn, breaks, Out, ok, no, widened, mapped, toBoundary}
 use Rattle.tree.specs.Coding.{totalWidth}
 use Rattle.tree.specs.Syntax.{Syntax, done, zeroBits, alignment, readWhole, read, _>>=_}
 use Rattle.tree.specs.Meaning.{fieldElements, sumOfWidths, Means}
 use Rattle.tree.proofs.Truth.{clash, range-of-one}
 use Rattle.tree.proofs.Meaning.{widths-append, every-answer-is-true}
-use Rattle.tree.proofs.Tables.{read-then}
+use Rattle.tree.proofs.Tables.{then-no, then-ok, then-done, then-same, then-then}
 use Rattle.bits.specs.declared.Number.the-variants.{Is as IsNumber, Refused as RefusedNumber}
 use Rattle.bits.specs.Answer.{nameless, spanOf}
-use Rattle.bits.proofs.Reading.{spans-ok, spans-no, named-zeros, widened-none, widened-twice}
+use Rattle.bits.proofs.Reading.{spans-ok, spans-no, named-zeros, widened-none}
 use Rattle.record.specs.declared.Block.{Block}
 use Rattle.record.specs.declared.Block.the-variants.{Nothing, Level1, Level2, Level5}
 use Rattle.record.specs.declared.Record.{Record}
@@ -64,45 +64,6 @@ found-no (no q) x e h = (q, refl, ap (λ (f : Found). f .why) e)
 -- a fault, by its number
 by-number : (r : Refusal) (f : Fault Name) (o : Out Name Record) → r ≡ refusal (numberIn f) → o ≡ no f → refusedFound r ≡ foundOf o
 by-number r f o e q = rw (q, e)
-
--- ---- one table behind another
-
-module _ {A B : Type 0} (p : Syntax Name A) where
-  then-no : (g : A → Syntax Name B) (at : ℕ) (s : List Bool) (f : Fault Name) → read p at s ≡ no f → read (p >>= g) at s ≡ no f
-  then-no g at s f e = read-then p g at s ∙ rw e refl
-
-  then-ok : (g : A → Syntax Name B) (at : ℕ) (s : List Bool) (a : A) (n : ℕ) → read p at s ≡ ok a n → read (p >>= g) at s ≡ widened n (read (g a) (at + n) (drop n s))
-  then-ok g at s a n e = read-then p g at s ∙ rw e refl
-
-  -- another value of the same
-  then-done : (h : A → B) (at : ℕ) (s : List Bool) → read (p >>= λ a. done (h a)) at s ≡ mapped h (read p at s)
-  unfolding read
-  then-done h at s = read-then p (λ a. done (h a)) at s ∙ go (read p at s)
-    where
-      go : (o : Out Name A) → andThen o (λ a. read (done (h a))) at s ≡ mapped h o
-      go (ok a n) = ap (ok (h a)) (add-zero n)
-      go (no f) = refl
-
-  -- what follows, in other words
-  then-same : (g k : A → Syntax Name B) → ((a : A) (at : ℕ) (s : List Bool) → read (g a) at s ≡ read (k a) at s) → (at : ℕ) (s : List Bool) → read (p >>= g) at s ≡ read (p >>= k) at s
-  then-same g k h at s = read-then p g at s ∙ go (read p at s) ∙ sym (read-then p k at s)
-    where
-      go : (o : Out Name A) → andThen o (λ a. read (g a)) at s ≡ andThen o (λ a. read (k a)) at s
-      go (ok a n) = ap (widened n) (h a (at + n) (drop n s))
-      go (no f) = refl
-
-  -- three in a row
-  then-then : {C : Type 0} (g : A → Syntax Name B) (k : B → Syntax Name C) (at : ℕ) (s : List Bool) → read (p >>= g >>= k) at s ≡ read (p >>= λ a. g a >>= k) at s
-  then-then {C} g k at s =
-      read-then (p >>= g) k at s ∙ ap (λ (o : Out Name B). andThen o (λ b. read (k b)) at s) (read-then p g at s) ∙ go (read p at s) ∙ sym (read-then p (λ a. g a >>= k) at s)
-    where
-      deep : (n : ℕ) (o : Out Name B) → andThen (widened n o) (λ b. read (k b)) at s ≡ widened n (andThen o (λ b. read (k b)) (at + n) (drop n s))
-      deep n (ok b m) = rw (drop-drop m n s, add-assoc at n m) (sym (widened-twice n m (read (k b) (at + (n + m)) (drop (n + m) s))))
-      deep n (no f) = refl
-
-      go : (o : Out Name A) → andThen (andThen o (λ a. read (g a)) at s) (λ b. read (k b)) at s ≡ andThen o (λ a. read (g a >>= k)) at s
-      go (ok a n) = deep n (read (g a) (at + n) (drop n s)) ∙ ap (widened n) (sym (read-then (g a) k (at + n) (drop n s)))
-      go (no f) = refl
 
 -- ---- the blocks
 

@@ -9,7 +9,7 @@ use native.Mathlib.Nat.{add-zero, add-assoc}
 use lib.IntN.{ℤ}
 use lib.ListN.{drop}
 use lib.Seq.{drop-drop}
-use Rattle.tree.specs.Reading.{meets, breaks, Out, ok, no, Reader, widened, andThen}
+use Rattle.tree.specs.Reading.{meets, Fault, breaks, Out, ok, no, Reader, widened, andThen, mapped}
 use Rattle.tree.specs.Coding.{coded}
 use Rattle.tree.specs.Syntax.{Syntax, done, reads, checks, here, read, _>>=_}
 use Rattle.tree.specs.Meaning.{Element, width, sumOfWidths, Next, complete, awaits, broken, Follow}
@@ -46,6 +46,40 @@ read-then {N} {A} {B} (checks r p) g at s = go (read-then p g at s) (meets r)
     go ih true = ih
     go ih false = refl
 read-then (here f) g at s = read-then (f at) g at s
+
+-- what follows from it
+module _ {N A B : Type 0} (p : Syntax N A) where
+  pub then-no : (g : A → Syntax N B) (at : ℕ) (s : List Bool) (f : Fault N) → read p at s ≡ no f → read (p >>= g) at s ≡ no f
+  then-no g at s f e = read-then p g at s ∙ rw e refl
+
+  pub then-ok : (g : A → Syntax N B) (at : ℕ) (s : List Bool) (a : A) (n : ℕ) → read p at s ≡ ok a n → read (p >>= g) at s ≡ widened n (read (g a) (at + n) (drop n s))
+  then-ok g at s a n e = read-then p g at s ∙ rw e refl
+
+  -- another value of the same
+  pub then-done : (h : A → B) (at : ℕ) (s : List Bool) → read (p >>= λ a. done (h a)) at s ≡ mapped h (read p at s)
+  unfolding read
+  then-done h at s = read-then p (λ a. done (h a)) at s ∙ go (read p at s)
+    where
+      go : (o : Out N A) → andThen o (λ a. read (done (h a))) at s ≡ mapped h o
+      go (ok a n) = ap (ok (h a)) (add-zero n)
+      go (no f) = refl
+
+  -- what follows, in other words
+  pub then-same : (g k : A → Syntax N B) → ((a : A) (at : ℕ) (s : List Bool) → read (g a) at s ≡ read (k a) at s) → (at : ℕ) (s : List Bool) → read (p >>= g) at s ≡ read (p >>= k) at s
+  then-same g k h at s = read-then p g at s ∙ go (read p at s) ∙ sym (read-then p k at s)
+    where
+      go : (o : Out N A) → andThen o (λ a. read (g a)) at s ≡ andThen o (λ a. read (k a)) at s
+      go (ok a n) = ap (widened n) (h a (at + n) (drop n s))
+      go (no f) = refl
+
+  -- three in a row
+  pub then-then : {C : Type 0} (g : A → Syntax N B) (k : B → Syntax N C) (at : ℕ) (s : List Bool) → read (p >>= g >>= k) at s ≡ read (p >>= λ a. g a >>= k) at s
+  then-then {C} g k at s =
+      read-then (p >>= g) k at s ∙ ap (λ (o : Out N B). andThen o (λ b. read (k b)) at s) (read-then p g at s) ∙ go (read p at s) ∙ sym (read-then p (λ a. g a >>= k) at s)
+    where
+      go : (o : Out N A) → andThen (andThen o (λ a. read (g a)) at s) (λ b. read (k b)) at s ≡ andThen o (λ a. read (g a >>= k)) at s
+      go (ok a n) = then-more (λ b. read (k b)) at s n (read (g a) (at + n) (drop n s)) ∙ ap (widened n) (sym (read-then (g a) k (at + n) (drop n s)))
+      go (no f) = refl
 
 -- ---- following one table behind another
 

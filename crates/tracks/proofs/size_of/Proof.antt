@@ -2,8 +2,7 @@
 use borrow.Author.Needs.{needs}
 use native.Mathlib.Omega.{arith}
 use mir.Syntax.{w32, w64}
-use Rattle.bits.proofs.Casts.{wider, unsigned}
-use Rattle.tracks.proofs.Signs.{negated-fits, size-fits}
+use Rattle.bits.proofs.Casts.{wider, unsigned, negated-fits, size-fits}
 use Rattle.tracks.proofs.size_of.Statement.{statement}
 use Rattle.tracks.proofs.size_of.Tie as tie
 
@@ -14,10 +13,10 @@ cast-result-2 : tie.Need-cast-result-2
 cast-result-2 c = let s = c .before in wider w32 w64 (s .args .v) (s .fits .v) (omega arith) .0
 
 sub-result : tie.Need-sub-result
-sub-result c = let s = c .before in negated-fits (s .args .v) (s .fits .v) (c .if1 .left)
+sub-result c = let s = c .before in negated-fits w32 w64 (s .args .v) (s .fits .v) (omega arith) (c .if1 .left)
 
 cast-result-3 : tie.Need-cast-result-3
-cast-result-3 c = let s = c .before in size-fits (s .args .v) (s .fits .v) (c .if1 .left)
+cast-result-3 c = let s = c .before in size-fits w32 w64 (s .args .v) (s .fits .v) (omega arith) (c .if1 .left)
 
 returns : tie.Need-returns
 returns c = search needs
