@@ -9,7 +9,7 @@ use mir.Val.{SFits, toZ, ofZ}
 use mir.ValLaws.{toZ-ofZ}
 use Rattle.keyed.specs.Keyed.{Compared, less, same, greater}
 use Rattle.plan.specs.Pictures.{Before, order, before-irreflexive, before-transitive}
-use Rattle.plan.specs.Planning.{Tag, Next, next, pictureOf, nextBy, nextOf}
+use Rattle.plan.specs.Planning.{Tag, NextTag, next, pictureOf, nextBy, nextOf}
 
 -- a test of two signed locals is a test of their numbers
 pub flag : (a b : ℤ) (v : Bool) → SFits w32 a → SFits w32 b → ltZ (toZ w32 (ofZ w32 a)) (toZ w32 (ofZ w32 b)) ≡ v → ltZ a b ≡ v
@@ -45,7 +45,7 @@ only-y true q x y e f = absurd (isn't (sym f) tt)
 only-y false true x y e f = refl
 only-y false false x y e f = absurd (isn't e tt)
 
-pub both-there : (p q : Bool) (x y : Tag) (r : Next) → not q ≡ false → not p ≡ false → nextBy x y (order (pictureOf x) (pictureOf y)) ≡ r → r ≡ nextOf p x q y
+pub both-there : (p q : Bool) (x y : Tag) (r : NextTag) → not q ≡ false → not p ≡ false → nextBy x y (order (pictureOf x) (pictureOf y)) ≡ r → r ≡ nextOf p x q y
 both-there true true x y r e f g = sym g
 both-there true false x y r e f g = absurd (isn't e tt)
 both-there false q x y r e f g = absurd (isn't f tt)

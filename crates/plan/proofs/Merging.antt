@@ -18,7 +18,7 @@ use Rattle.plan.specs.Limit.{mostPoints}
 use Rattle.plan.specs.Pictures.{Before, order, pictures}
 use Rattle.plan.specs.declared.Turn.{Turn}
 use Rattle.plan.specs.declared.Layout.{Layout}
-use Rattle.plan.specs.Planning.{Tag, tag, sourceOf, pictureOf, tagsFrom, firstTags, secondTags, joinTags, RisingTags, Next, next, nextBy, nextOf, turnOf, clamped, noSources, refusedLayout, layoutOf}
+use Rattle.plan.specs.Planning.{Tag, tag, sourceOf, pictureOf, tagsFrom, firstTags, secondTags, joinTags, RisingTags, NextTag, next, nextBy, nextOf, turnOf, clamped, noSources, refusedLayout, layoutOf}
 
 abbrev none : Tag
 none = tag 0 (pos 0)
@@ -41,7 +41,7 @@ gone [] (suc i) h = refl
 gone (x ∷ xs) zero h = absurd (not-suc-le-zero h)
 gone (x ∷ xs) (suc i) h = gone xs i (omega arith)
 
-record Fronted (A B : List Tag) (i j : ℕ) (N : Next) : Type 0 where
+record Fronted (A B : List Tag) (i j : ℕ) (N : NextTag) : Type 0 where
   pub front : joinTags (drop i A) (drop j B) ≡ N .tag ∷ joinTags (drop (i + N .left) A) (drop (j + N .right) B)
   pub left : i + N .left ≤ length A
   pub right : j + N .right ≤ length B
@@ -49,7 +49,7 @@ record Fronted (A B : List Tag) (i j : ℕ) (N : Next) : Type 0 where
 
 module _ (A B : List Tag) (ra : RisingTags A) (rb : RisingTags B) (i j : ℕ) where
   -- by the fronts of what is left
-  fronted : (N : Next) (xs ys : List Tag) → drop i A ≡ xs → drop j B ≡ ys → joinTags xs ys ≡ N .tag ∷ joinTags (drop (N .left) xs) (drop (N .right) ys)
+  fronted : (N : NextTag) (xs ys : List Tag) → drop i A ≡ xs → drop j B ≡ ys → joinTags xs ys ≡ N .tag ∷ joinTags (drop (N .left) xs) (drop (N .right) ys)
       → i + N .left ≤ length A → j + N .right ≤ length B → i + j < i + N .left + (j + N .right) → Fronted A B i j N
   fronted N xs ys ea eb f l r o = record {
     front = ap (λ (u : List Tag). joinTags u (drop j B)) ea ∙ ap (joinTags xs) eb ∙ f
@@ -106,7 +106,7 @@ pub record Comes (A B : List Tag) (i j : ℕ) (N : Turn) : Type 0 where
   pub right : j + N .right ≤ length B
   pub on : i + j < i + N .left + (j + N .right)
 
-comes : (A B : List Tag) (i j : ℕ) (N : Next) → Fronted A B i j N → Comes A B i j (turnOf N)
+comes : (A B : List Tag) (i j : ℕ) (N : NextTag) → Fronted A B i j N → Comes A B i j (turnOf N)
 comes A B i j N f = record { front = ap (map sourceOf) (f .front); left = f .left; right = f .right; on = f .on }
 
 -- ---- the loop's invariant

@@ -56,28 +56,28 @@ abbrev pub RisingTags : List Tag → Type 0
 RisingTags = Rising pictures pictureOf
 
 -- ---- one turn of a join
-pub record Next : Type 0 where
+pub record NextTag : Type 0 where
   pub tag : Tag
   pub left : ℕ
   pub right : ℕ
 
-abbrev pub next : Tag → ℕ → ℕ → Next
+abbrev pub next : Tag → ℕ → ℕ → NextTag
 next t l r = record { tag = t; left = l; right = r }
 
 -- the lesser number; the second's where they are equal, which takes both off
-abbrev pub nextBy : (x y : Tag) → Compared Before (pictureOf x) (pictureOf y) → Next
+abbrev pub nextBy : (x y : Tag) → Compared Before (pictureOf x) (pictureOf y) → NextTag
 nextBy x y (less _) = next x 1 0
 nextBy x y (same _) = next y 1 1
 nextBy x y (greater _) = next y 0 1
 
 -- what comes first of x, which is there where p says so, and y, which is there where q says so
-abbrev pub nextOf : Bool → Tag → Bool → Tag → Next
+abbrev pub nextOf : Bool → Tag → Bool → Tag → NextTag
 nextOf p x q y = cond q (cond p (nextBy x y (order (pictureOf x) (pictureOf y))) (next y 0 1)) (next x 1 0)
 
 abbrev pub takenOff : ℕ → ℕ → ℕ → Turn
 takenOff source left right = record { source = source; left = left; right = right }
 
-abbrev pub turnOf : Next → Turn
+abbrev pub turnOf : NextTag → Turn
 turnOf n = takenOff (n .tag .source) (n .left) (n .right)
 
 abbrev pub clamped : ℕ → ℕ

@@ -18,7 +18,7 @@ use Rattle.track.specs.declared.Point.{Point}
 use Rattle.track.specs.declared.Joined.{Joined}
 use Rattle.track.specs.declared.InForce.{InForce}
 use Rattle.track.specs.Track.{number, padded, allStand, rise, isTrack, joinPoints, pointInForce, pointAtNumber, noneInForce, shown, joinedAt}
-use Rattle.track.specs.Lent.{Table, tableOf, Track, pointsIn, shownAt, pictureOf, startAt, answerInto, joinedInto}
+use Rattle.track.specs.Lent.{Table, tableOf, Track, pointsIn, shownAt, startOf, startAt, answerInto, joinedInto}
 use Rattle.promises.specs.Joins.{Alike, isLater}
 use Rattle.promises.proofs.TrackLaws.{parts, in-order, made-track, done-means, joined-is, joined-points, join-stands}
 
@@ -39,7 +39,7 @@ not-started t p v e = track-shows t p v ∙ go (pointInForce p (pointsIn t)) e
     there none = false
     there (some z) = true
 
-    go : (o : Option Point) → pictureOf o ≡ none → shown o ≡ noneInForce 0
+    go : (o : Option Point) → startOf o ≡ none → shown o ≡ noneInForce 0
     go none e = refl
     go (some x) e = let w : _≡_ {A = Bool} true false = ap there e in let q : _≡_ {A = ℕ} 0 1 = cc in absurd (omega arith)
 
@@ -114,7 +114,7 @@ later-by x y (same e) =
     by-start false (shown (some x)) (shown (some y)) _ (sym (not-so (ltZ (number y) (number x)) (λ g. before-irreflexive (number y) (subst (λ (z : ℤ). Before (number y) z) e g))))
 later-by x y (greater h) = by-start true (shown (some x)) (shown (some y)) _ (sym (so (ltZ (number y) (number x)) h))
 
-later-shows : (u v : Option Point) → shown (later pictures number u v) ≡ cond (isLater (pictureOf u) (pictureOf v)) (shown u) (shown v)
+later-shows : (u v : Option Point) → shown (later pictures number u v) ≡ cond (isLater (startOf u) (startOf v)) (shown u) (shown v)
 later-shows none v = refl
 later-shows (some x) none = refl
 later-shows (some x) (some y) = later-by x y (order (number x) (number y))

@@ -9,7 +9,7 @@ use lib.IntN.{pos}
 use Rattle.tree.specs.Bits.{bit, pack}
 use Rattle.tree.specs.Coding.{unsigned, variable, fixed}
 use Rattle.tree.specs.Meaning.{Element, element, zeroBit, fieldElements, sumOfWidths, allBits}
-use Rattle.tree.specs.Parts.{padded}
+use Rattle.tree.specs.Parts.{paddedToByte}
 use Rattle.record.specs.declared.Block.{Block}
 use Rattle.record.specs.declared.Record.{Record}
 use Rattle.record.specs.Name.{Name, «app_identifier», «app_version», «metadata_refresh_flag», «num_ext_blocks», «dm_alignment_zero_bit», «ext_block_length», «ext_block_level», «ext_dm_alignment_zero_bit»}
@@ -25,7 +25,7 @@ fixedElement w n v = element n (fixed (unsigned w)) (pos v)
 
 -- while( !byte_aligned() ) dm_alignment_zero_bit
 abbrev pub toByte : List (Element Name) → List (Element Name)
-toByte es = padded «dm_alignment_zero_bit» es
+toByte es = paddedToByte «dm_alignment_zero_bit» es
 
 -- tables E.1.2 and E.1.3: the length, the level, the fields, and zero bits until 8 × length bits have passed since the level
 abbrev pub blockElements : Block → List (Element Name)

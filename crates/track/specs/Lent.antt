@@ -32,13 +32,13 @@ pointsIn t = pointsOf (t .entries) (t .count)
 abbrev pub shownAt : Table → ℤ → InForce
 shownAt t picture = lookupAnswer (t .entries) (t .count) picture
 
-abbrev pub pictureOf : Option Point → Option ℤ
-pictureOf none = none
-pictureOf (some x) = some (number x)
+abbrev pub startOf : Option Point → Option ℤ
+startOf none = none
+startOf (some x) = some (number x)
 
 -- a track's start at a picture: the number of the point in force there; a track with no such point has not started
 abbrev pub startAt : Table → ℤ → Option ℤ
-startAt t picture = pictureOf (pointInForce picture (pointsIn t))
+startAt t picture = startOf (pointInForce picture (pointsIn t))
 
 -- what a join of a and b into a lent table answers
 abbrev pub answerInto : Table → Table → List Point → Joined

@@ -10,7 +10,7 @@ use Rattle.tree.specs.Bits.{bitsOf, pack, Bytes}
 use Rattle.tree.specs.Reading.{ok, toBoundary}
 use Rattle.tree.specs.Syntax.{Syntax, readWhole}
 use Rattle.tree.specs.Meaning.{Element, zeroBit, sumOfWidths, allBits, Spells, MeansWhole}
-use Rattle.tree.specs.Parts.{padded}
+use Rattle.tree.specs.Parts.{paddedToByte}
 use Rattle.tree.specs.Wrapper.{readBehind}
 use Rattle.tree.proofs.Lists.{bytes-append}
 use Rattle.tree.proofs.Bits.{bits-pack, pack-bits, length-bits, bits-append, bits-determine, packed-bytes}
@@ -25,7 +25,7 @@ widths-zeros zero name = refl
 widths-zeros (suc n) name = omega (arith, widths-zeros n name)
 
 -- with zero bits to the next byte boundary elements end there
-pub padded-whole : {N : Type 0} (name : N) (es : List (Element N)) → sumOfWidths (padded name es) % 8 ≡ 0
+pub padded-whole : {N : Type 0} (name : N) (es : List (Element N)) → sumOfWidths (paddedToByte name es) % 8 ≡ 0
 padded-whole name es =
     let n = sumOfWidths es in
     rw (widths-append es (replicate (toBoundary n) (zeroBit name)), widths-zeros (toBoundary n) name) (even n)

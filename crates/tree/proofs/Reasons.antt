@@ -13,7 +13,7 @@ use Rattle.tree.specs.Reading.{Rule, meets, Fault, cutOff, overlong, bre
 use Rattle.tree.specs.Coding.{unsigned, Descriptor, fixed, natural}
 use Rattle.tree.specs.Syntax.{Syntax, done, reads, checks, here, _>>=_, any, ranged, rangeRule, zeroBits, alignment, leftOver, readWhole}
 use Rattle.tree.specs.Meaning.{Element, element, width, sumOfWidths, Next, complete, awaits, broken, Follow, Breaks, allBits, Means, MeansWhole}
-use Rattle.tree.specs.Parts.{number, limited, given, places, aligned}
+use Rattle.tree.specs.Parts.{unsignedNumber, limited, given, places, aligned}
 use Rattle.tree.specs.Wrapper.{wrapperTable}
 use Rattle.tree.specs.Reasons.{Says, Awaits, isFixed, AllFixed, Tells, Reason}
 use Rattle.tree.proofs.Meaning.{widths-append}
@@ -46,7 +46,7 @@ module _ {N : Type 0} (About : List (Element N) → Rule N → Type 0) where
   pub says-done : {A : Type 0} (a : A) → Breaks (Says About) (done a)
   says-done a = breaks-done (Says About) a
 
-  pub says-number : (name : N) (n : ℕ) → Breaks (Says About) (number name n)
+  pub says-number : (name : N) (n : ℕ) → Breaks (Says About) (unsignedNumber name n)
   unfolding _>>=_
   says-number name n =
       says-then (any name (fixed (unsigned n))) (λ z. done (natural z)) (breaks-any (Says About) name (fixed (unsigned n))) (λ z. says-done (natural z))
@@ -104,7 +104,7 @@ module _ {N : Type 0} (P : N → Descriptor → Type 0) where
   unfolding Awaits
   awaits-done a = tt
 
-  pub awaits-number : (name : N) (n : ℕ) → P name (fixed (unsigned n)) → Awaits P (number name n)
+  pub awaits-number : (name : N) (n : ℕ) → P name (fixed (unsigned n)) → Awaits P (unsignedNumber name n)
   unfolding Awaits
   awaits-number name n h = (h, λ z. tt)
 
@@ -146,7 +146,7 @@ module _ {N : Type 0} (About : List (Element N) → Rule N → Type 0) where
   pub tells-then : {A B : Type 0} (p : Syntax N A) (g : A → Syntax N B) → Tells About p → ((a : A) → Tells About (g a)) → Tells About (p >>= g)
   tells-then p g hp hg = record { speaks = says-then About p g (hp .speaks) (λ a. hg a .speaks); awaited = awaits-then FixedAt p g (hp .awaited) (λ a. hg a .awaited) }
 
-  pub tells-number : (name : N) (n : ℕ) → Tells About (number name n)
+  pub tells-number : (name : N) (n : ℕ) → Tells About (unsignedNumber name n)
   tells-number name n = record { speaks = says-number About name n; awaited = awaits-number FixedAt name n refl }
 
   pub tells-limited : (name : N) (n k low high : ℕ) → ((at : ℕ) (z : ℤ) → About (element name (fixed (unsigned n)) z ∷ []) (rangeRule name k (pos low) (pos high) at z)) → Tells About (limited name n k low high)

@@ -12,7 +12,7 @@ use Rattle.tree.specs.Reading.{between, allows, toBoundary}
 use Rattle.tree.specs.Coding.{unsigned, fixed, holdsIn, natural}
 use Rattle.tree.specs.Syntax.{Syntax, done, _>>=_, alignment}
 use Rattle.tree.specs.Meaning.{Element, element, zeroBit, sumOfWidths, complete, Follow, Spells}
-use Rattle.tree.specs.Parts.{number, limited, given, places, aligned, field, fieldFits, limitedFits, givenElements, givenFits, placesElements, placesFit, placesFixed, padded, allZero}
+use Rattle.tree.specs.Parts.{unsignedNumber, limited, given, places, aligned, field, fieldFits, limitedFits, givenElements, givenFits, placesElements, placesFit, placesFixed, paddedToByte, allZero}
 use Rattle.tree.proofs.Tables.{together}
 use Rattle.tree.proofs.Truth.{clash, and-both, and-parts}
 use Rattle.tree.proofs.Spells.{joined, alone, apart-complete, any-only, ranged-only, ranged-together, done-only, zeros-take, zeros-only}
@@ -130,11 +130,11 @@ module _ {N A B : Type 0} (Known : B → Type 0) (p : Syntax N A) (whole : A →
 
 -- ---- one element
 module _ {N : Type 0} (name : N) (n : ℕ) where
-  pub number-takes : (at v : ℕ) → Any v × (fieldFits n v ≡ true) → Follow (number name n) at (field name n v ∷ []) (complete v)
+  pub number-takes : (at v : ℕ) → Any v × (fieldFits n v ≡ true) → Follow (unsignedNumber name n) at (field name n v ∷ []) (complete v)
   unfolding Follow
   number-takes at v h = ((refl, refl, h .1), (refl, refl))
 
-  pub number-finds : (at : ℕ) (es : List (Element N)) (v : ℕ) → Follow (number name n) at es (complete v) → (Any v × (fieldFits n v ≡ true)) × (es ≡ field name n v ∷ [])
+  pub number-finds : (at : ℕ) (es : List (Element N)) (v : ℕ) → Follow (unsignedNumber name n) at es (complete v) → (Any v × (fieldFits n v ≡ true)) × (es ≡ field name n v ∷ [])
   unfolding _>>=_
   number-finds at es v h =
       let m = any-only name (fixed (unsigned n)) (λ z. done (natural z)) at es v h in
@@ -146,7 +146,7 @@ module _ {N : Type 0} (name : N) (n : ℕ) where
       held (pos w) rest a b c e = rw e ((tt, a), b ∙ rw c refl)
       held (negsuc w) rest a b c e = let z : _≡_ {A = ℕ} 0 1 = cc in clash z
 
-  abbrev pub number-spelled : Spelled (number name n)
+  abbrev pub number-spelled : Spelled (unsignedNumber name n)
   number-spelled = record { elementsOf = λ v. field name n v ∷ []; fits = fieldFits n; spelled = λ at. record { takes = number-takes at; only = number-finds at } }
 
   module _ (k low high : ℕ) where
@@ -228,14 +228,14 @@ module _ {N A : Type 0} (name : N) (p : Syntax N A) (e : A → List (Element N))
   abbrev gap : ℕ → List (Element N)
   gap at = replicate (toBoundary at) (zeroBit name)
 
-  aligned-takes : (a : A) → Fit a → Follow (aligned name p) 0 (padded name (e a)) (complete a)
+  aligned-takes : (a : A) → Fit a → Follow (aligned name p) 0 (paddedToByte name (e a)) (complete a)
   unfolding Follow
   aligned-takes a h =
       let n = sumOfWidths (e a) in
       let z = together (alignment name) (λ z. done a) n (gap n) [] tt (complete a) (zeros-take name (toBoundary n) n) (refl, refl) in
       together p (λ a. alignment name >>= λ z. done a) 0 (e a) (gap n) a (complete a) (hp .takes a h) (rw (zero-add n) (rw (append-nil (gap n)) at z))
 
-  aligned-finds : (es : List (Element N)) (a : A) → Follow (aligned name p) 0 es (complete a) → Fit a × (es ≡ padded name (e a))
+  aligned-finds : (es : List (Element N)) (a : A) → Follow (aligned name p) 0 es (complete a) → Fit a × (es ≡ paddedToByte name (e a))
   unfolding Follow
   aligned-finds es a h =
       let k = apart-complete p (λ a. alignment name >>= λ z. done a) 0 es a h in
@@ -246,10 +246,10 @@ module _ {N A : Type 0} (name : N) (p : Syntax N A) (e : A → List (Element N))
       let d = done-only (k .made) a (there + sumOfWidths (m .first)) (m .second) (m .two) in
       make (k .made) (k .first) (k .second) (d .1) (x .0) (k .all) (x .1) (alone (k .second) (m .first) (m .second) (gap there) (m .all) (d .0) y)
     where
-      make : (c : A) (xs ys : List (Element N)) → a ≡ c → Fit c → es ≡ xs ++ ys → xs ≡ e c → ys ≡ gap (0 + sumOfWidths xs) → Fit a × (es ≡ padded name (e a))
+      make : (c : A) (xs ys : List (Element N)) → a ≡ c → Fit c → es ≡ xs ++ ys → xs ≡ e c → ys ≡ gap (0 + sumOfWidths xs) → Fit a × (es ≡ paddedToByte name (e a))
       make c xs ys q f l m r = rw q (f, joined es xs ys (e c) (gap (sumOfWidths (e c))) l m (r ∙ rw (m, zero-add (sumOfWidths (e c))) refl))
 
-  pub aligned-spells : Spells (aligned name p) 0 (λ a. padded name (e a)) Fit
+  pub aligned-spells : Spells (aligned name p) 0 (λ a. paddedToByte name (e a)) Fit
   aligned-spells = record { takes = aligned-takes; only = aligned-finds }
 
 -- with nothing known: followed by exactly the elements of the values that fit

@@ -16,7 +16,7 @@ use Rattle.tree.specs.Coding.{unsigned, widthOf, totalWidth, holds, hold
 use Rattle.tree.specs.Syntax.{Syntax, done, _>>=_, any, ranged, must, rangeRule, Field, codingOf, row, zeroBits, alignment}
 use Rattle.tree.specs.Meaning.{Element, zeroBit, fieldElements, sumOfWidths, allBits, Next, complete, awaits, broken, Follow, Means}
 use Rattle.tree.specs.Wrapper.{wrapperTable}
-use Rattle.tree.specs.Parts.{givenElements, givenFits, placesElements, placesFit, padded, all}
+use Rattle.tree.specs.Parts.{givenElements, givenFits, placesElements, placesFit, paddedToByte, all}
 use Rattle.tree.proofs.Truth.{clash, and-parts}
 use Rattle.tree.proofs.Bits.{length-packed}
 use Rattle.tree.proofs.Elements.{length-code-in, zeros-few}
@@ -56,13 +56,13 @@ module _ {N A : Type 0} (k : ℕ) (e : A → List (Element N)) (fits isFixed : A
       sum x y m p q r = omega arith
 
 -- bytes of elements with zero bits to the next byte boundary
-pub padded-bytes : {N : Type 0} (name : N) (es : List (Element N)) (k : ℕ) → sumOfWidths es ≤ k → length (pack (allBits (padded name es))) ≤ (k + 7) / 8
+pub padded-bytes : {N : Type 0} (name : N) (es : List (Element N)) (k : ℕ) → sumOfWidths es ≤ k → length (pack (allBits (paddedToByte name es))) ≤ (k + 7) / 8
 padded-bytes name es k h =
     let n = sumOfWidths es in
-    let l : length (allBits (padded name es)) ≡ n + toBoundary n =
-    length-all (padded name es) ∙ widths-append es (replicate (toBoundary n) (zeroBit name)) ∙ ap (λ (m : ℕ). n + m) (widths-zeros (toBoundary n) name) in
-    let b : length (pack (allBits (padded name es))) ≡ length (allBits (padded name es)) / 8 = length-packed (length (allBits (padded name es)) / 8) (allBits (padded name es)) in
-    few (length (pack (allBits (padded name es)))) (length (allBits (padded name es))) n b l h
+    let l : length (allBits (paddedToByte name es)) ≡ n + toBoundary n =
+    length-all (paddedToByte name es) ∙ widths-append es (replicate (toBoundary n) (zeroBit name)) ∙ ap (λ (m : ℕ). n + m) (widths-zeros (toBoundary n) name) in
+    let b : length (pack (allBits (paddedToByte name es))) ≡ length (allBits (paddedToByte name es)) / 8 = length-packed (length (allBits (paddedToByte name es)) / 8) (allBits (paddedToByte name es)) in
+    few (length (pack (allBits (paddedToByte name es)))) (length (allBits (paddedToByte name es))) n b l h
   where
     few : (c b n : ℕ) → c ≡ b / 8 → b ≡ n + toBoundary n → n ≤ k → c ≤ (k + 7) / 8
     few c b n p q r = omega arith

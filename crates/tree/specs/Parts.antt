@@ -12,8 +12,8 @@ use Rattle.tree.specs.Syntax.{Syntax, done, reads, checks, here, _>>=_, 
 use Rattle.tree.specs.Meaning.{Element, element, zeroBit, sumOfWidths}
 
 -- u(n), as a number without sign
-abbrev pub number : {N : Type 0} → N → ℕ → Syntax N ℕ
-number name n = reads name (fixed (unsigned n)) (λ z. done (natural z))
+abbrev pub unsignedNumber : {N : Type 0} → N → ℕ → Syntax N ℕ
+unsignedNumber name n = reads name (fixed (unsigned n)) (λ z. done (natural z))
 
 -- u(n), from low to high, or else refused
 abbrev pub limited : {N : Type 0} → N → ℕ → (refusal low high : ℕ) → Syntax N ℕ
@@ -69,8 +69,8 @@ placesFixed zero isFixed (a ∷ others) = false
 placesFixed (suc most) isFixed [] = false
 placesFixed (suc most) isFixed (a ∷ others) = isFixed a && placesFixed most isFixed others
 
-abbrev pub padded : {N : Type 0} → N → List (Element N) → List (Element N)
-padded name es = es ++ replicate (toBoundary (sumOfWidths es)) (zeroBit name)
+abbrev pub paddedToByte : {N : Type 0} → N → List (Element N) → List (Element N)
+paddedToByte name es = es ++ replicate (toBoundary (sumOfWidths es)) (zeroBit name)
 
 -- each is true
 abbrev pub all : List Bool → Bool
