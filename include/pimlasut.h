@@ -1,6 +1,6 @@
 /*
- * Pimlasut for C: a reader and a writer for ST2094-10_data (ATSC A/341, Annex E), bare or in its ITU-T T.35 wrapper, the
- * shader's numbers, and tracks of records over pictures.
+ * Pimlasut for C: a reader and a writer for ST2094-10_data (ATSC A/341, Annex E), bare, in its ITU-T T.35 wrapper or in an
+ * H.265 SEI NAL unit, the shader's numbers, and tracks of records over pictures.
  *
  * Link with libpimlasut.a, which `rt staticlib pimlasut` writes. It needs memcpy and memset and nothing else, allocates
  * nothing, and keeps nothing from one call to the next.
@@ -47,6 +47,10 @@ extern "C" {
 #define PIM_BARE_BYTES 224
 #define PIM_WRAPPED_BYTES 232
 
+/* So many bytes always suffice to write a unit. A unit that is read has at most PIM_UNIT_LIMIT, as it arrives. */
+#define PIM_UNIT_BYTES 354
+#define PIM_UNIT_LIMIT 4096
+
 /*
  * A table is PIM_TABLE_LEN numbers: PIM_POINTS points of PIM_POINT_LEN numbers each, table[PIM_POINT(i)] being the point i:
  *
@@ -87,8 +91,14 @@ enum {
     PIM_NOT_VALID = 14,     /* record to be written or placed is not valid, or block to be converted is not a level 2 block
                                in range */
     PIM_MANY_POINTS = 15,   /* a join has more than 64 different numbers */
-    PIM_NOT_TRACK = 16      /* not a track: count above 64, numbers not rising, or a point's record not valid with flag 1 (a
+    PIM_NOT_TRACK = 16,     /* not a track: count above 64, numbers not rising, or a point's record not valid with flag 1 (a
                                table that has not exactly 64 entries is refused with 13 here) */
+    PIM_UNIT_HEADER = 30,   /* unit shorter than two bytes or above 4,096, first header bit set, temporal id plus one of 0, or
+                               another type */
+    PIM_EMULATION = 31,     /* two zero bytes followed by 00, 01 or 02, or by 03 and then a byte above 03 */
+    PIM_MESSAGES = 32,      /* no message at all, a type, size or content that runs past the end, or an end that is not the
+                               single byte 80 after a whole message */
+    PIM_NOT_OURS = 33       /* none of our messages */
 };
 
 /*
@@ -105,6 +115,21 @@ uint32_t pim_read_wrapped(const uint8_t *in, size_t n, int32_t *record, size_t r
  */
 uint32_t pim_write_bare(const int32_t *record, size_t record_len, uint8_t *out, size_t n, uint32_t *written);
 uint32_t pim_write_wrapped(const int32_t *record, size_t record_len, uint8_t *out, size_t n, uint32_t *written);
+
+/*
+ * Read an SEI unit of n bytes, a prefix unit (type 39) or a suffix unit (type 40), from its header on, without a start code.
+ * The first message of type 4 that begins with the eight wrapper bytes is read as pim_read_wrapped reads it, and the others
+ * are passed over. Done: the record, and the bits read of that message's data. Refused: 13 if record_len is not
+ * PIM_RECORD_LEN; else 30, then 31, then 32, then 33, each over the whole unit; else 1, 2 or 4 to 12, by that message.
+ */
+uint32_t pim_read_unit(const uint8_t *in, size_t n, int32_t *record, size_t record_len, uint32_t *bits);
+
+/*
+ * Write a prefix unit into the first bytes of out: layer 0, temporal id plus one of 1, and the record's message alone; later
+ * bytes stay. Done: the bytes written, those of emulation prevention with them. Refused: 13 if record_len is not
+ * PIM_RECORD_LEN; then 14 if the record is not valid; then 13 if n is less than is needed.
+ */
+uint32_t pim_write_unit(const int32_t *record, size_t record_len, uint8_t *out, size_t n, uint32_t *written);
 
 /*
  * The seven numbers of a level 2 block, in the order of its fields, as the bits of single-precision numbers: each is

@@ -22,7 +22,7 @@ static const uint8_t payload[] = {0x5B, 0x30, 0x08, 0x00, 0x60, 0x02, 0x00, 0x00
 
 static int32_t record[PIM_RECORD_LEN], old_record[PIM_RECORD_LEN];
 static int32_t first[PIM_TABLE_LEN], second[PIM_TABLE_LEN], table[PIM_TABLE_LEN], old_table[PIM_TABLE_LEN], zeros[PIM_TABLE_LEN];
-static uint8_t bytes[PIM_WRAPPED_BYTES + 4], old_bytes[PIM_WRAPPED_BYTES + 4];
+static uint8_t bytes[PIM_UNIT_LIMIT + 4], old_bytes[PIM_UNIT_LIMIT + 4];
 
 static void reading_and_writing(void)
 {
@@ -45,6 +45,89 @@ static void reading_and_writing(void)
     expect(pim_read_bare(bytes, written - 1, record, PIM_RECORD_LEN, &bits) == 1, "a byte is missing");
     expect(pim_read_bare(bytes, written, record, PIM_RECORD_LEN - 1, &bits) == 13, "a record of 145 numbers");
     expect(memcmp(record, old_record, sizeof record) == 0 && bits == 7, "a refused reading leaves all as it was");
+}
+
+/* The unit of two_blocks: header, type, size, wrapper and the payload, in which no 03 is needed; and the end. */
+static const uint8_t unit[] = {0x4E, 0x01, 0x04, 0x1D, 0xB5, 0x00, 0x31, 0x47, 0x41, 0x39, 0x34, 0x09, 0x5B, 0x30, 0x08, 0x00, 0x60,
+                               0x02, 0x00, 0x00, 0xC0, 0x28, 0x00, 0xFF, 0xF0, 0x01, 0x00, 0x20, 0x03, 0x00, 0x4F, 0xFF, 0x80, 0x80};
+
+/* Level 1 with three zeros: 01's payload of five zero bytes in a row, between which 03 is put twice. */
+static const int32_t three_zeros[PIM_RECORD_LEN] = {1, 1, 1};
+static const uint8_t escaped[] = {0x4E, 0x01, 0x04, 0x10, 0xB5, 0x00, 0x31, 0x47, 0x41, 0x39, 0x34, 0x09,
+                                  0x5A, 0x30, 0x08, 0x00, 0x00, 0x03, 0x00, 0x00, 0x03, 0x00, 0x80};
+
+static void units(void)
+{
+    uint32_t written = 7, bits = 7;
+    memset(bytes, 0xEE, sizeof bytes);
+    expect(pim_write_unit(two_blocks, PIM_RECORD_LEN, bytes, PIM_UNIT_BYTES, &written) == 0, "write a unit");
+    expect(written == sizeof unit && memcmp(bytes, unit, sizeof unit) == 0, "the unit");
+    expect(bytes[written] == 0xEE, "later bytes stay");
+    expect(pim_read_unit(bytes, written, record, PIM_RECORD_LEN, &bits) == 0, "read a unit");
+    expect(memcmp(record, two_blocks, sizeof record) == 0 && bits == 8 * sizeof payload, "what was written is read");
+    expect(pim_write_unit(three_zeros, PIM_RECORD_LEN, bytes, sizeof escaped, &written) == 0, "room for exactly the unit");
+    expect(written == sizeof escaped && memcmp(bytes, escaped, sizeof escaped) == 0, "emulation prevention");
+    expect(pim_read_unit(bytes, written, record, PIM_RECORD_LEN, &bits) == 0 && bits == 64, "and what it hides");
+    expect(memcmp(record, three_zeros, sizeof record) == 0, "its record");
+
+    /* As many blocks as a record holds, as many zeros as they have: level 1, sixteen of level 2 and level 5. */
+    memset(record, 0, sizeof record);
+    record[0] = 1;
+    record[1] = PIM_BLOCKS;
+    for (int i = 0; i < PIM_BLOCKS; i++)
+        record[PIM_PLACE(i)] = i == 0 ? 1 : i < 17 ? 2 : 5;
+    for (int i = 1; i < 17; i++)
+        record[PIM_PLACE(i) + 1] = i - 1;
+    memcpy(old_record, record, sizeof record);
+    expect(pim_write_unit(record, PIM_RECORD_LEN, bytes, PIM_UNIT_BYTES, &written) == 0, "354 bytes suffice");
+    expect(written > PIM_WRAPPED_BYTES + 5 && written <= PIM_UNIT_BYTES && bytes[written] == 0xEE, "a long unit");
+    expect(pim_read_unit(bytes, written, record, PIM_RECORD_LEN, &bits) == 0 && bits == 8 * PIM_BARE_BYTES, "which is read");
+    expect(memcmp(record, old_record, sizeof record) == 0, "to the same record");
+
+    memcpy(old_bytes, bytes, sizeof bytes);
+    memcpy(record, three_zeros, sizeof record);
+    record[PIM_PLACE(0) + 1] = 1;
+    written = 7;
+    expect(pim_write_unit(three_zeros, PIM_RECORD_LEN - 1, bytes, PIM_UNIT_BYTES, &written) == PIM_SHORT, "145 numbers to write");
+    expect(pim_write_unit(record, PIM_RECORD_LEN, bytes, 0, &written) == PIM_NOT_VALID, "a record that is not valid, and no room");
+    expect(pim_write_unit(three_zeros, PIM_RECORD_LEN, bytes, sizeof escaped - 1, &written) == PIM_SHORT, "a byte of room too few");
+    expect(memcmp(bytes, old_bytes, sizeof bytes) == 0 && written == 7, "a refused unit leaves all as it was");
+}
+
+/* The unit with one byte changed, and cut to n bytes. */
+static void refused_unit(size_t place, uint8_t byte, size_t n, uint32_t refusal, const char *what)
+{
+    uint32_t bits = 7;
+    memcpy(bytes, unit, sizeof unit);
+    bytes[place] = byte;
+    memset(record, 0x5A, sizeof record);
+    memcpy(old_record, record, sizeof record);
+    memcpy(old_bytes, bytes, sizeof bytes);
+    expect(pim_read_unit(bytes, n, record, PIM_RECORD_LEN, &bits) == refusal, what);
+    expect(pim_read_unit(bytes, n, record, PIM_RECORD_LEN + 1, &bits) == PIM_SHORT, "147 numbers, before everything");
+    expect(memcmp(record, old_record, sizeof record) == 0 && bits == 7, "a refused reading of a unit leaves all as it was");
+    expect(memcmp(bytes, old_bytes, sizeof bytes) == 0, "and what is read is not written");
+}
+
+/* The message behind as many empty ones of type 1 as n bytes have room for; the last of them takes what is left over. */
+static void longest_unit(size_t n, uint32_t result)
+{
+    uint32_t bits = 7;
+    size_t at = 2, left = sizeof unit - 2;
+    bytes[0] = unit[0];
+    bytes[1] = unit[1];
+    while (at + left + 2 < n) {
+        bytes[at++] = 1;
+        bytes[at++] = 0;
+    }
+    if (at + left < n) {
+        bytes[at - 1] = n - at - left;
+        memset(bytes + at, 0x55, n - at - left);
+        at = n - left;
+    }
+    memcpy(bytes + at, unit + 2, left);
+    expect(pim_read_unit(bytes, n, record, PIM_RECORD_LEN, &bits) == result, "a unit of the most bytes, or above");
+    expect(result != 0 || (bits == 8 * sizeof payload && memcmp(record, two_blocks, sizeof record) == 0), "its last message");
 }
 
 /* The row differs from two_blocks at one place: it names no record, or one that is not valid. */
@@ -115,6 +198,20 @@ int main(void)
     refused(PIM_PLACE(1) + 7, -65537, "an ms_weight that is no int16_t");
     refused(PIM_PLACE(0) + 4, 1, "an unused number that is not 0");
     refused(PIM_PLACE(17) + 7, 1, "an unused number of a place that holds nothing");
+    units();
+    refused_unit(0, 0x4E, 1, PIM_UNIT_HEADER, "a unit of one byte");
+    refused_unit(0, 0xCE, sizeof unit, PIM_UNIT_HEADER, "the first header bit");
+    refused_unit(0, 0x4C, sizeof unit, PIM_UNIT_HEADER, "type 38");
+    refused_unit(1, 0x00, sizeof unit, PIM_UNIT_HEADER, "a temporal id plus one of 0");
+    refused_unit(20, 0x01, sizeof unit, PIM_EMULATION, "a start code");
+    refused_unit(0, 0x4E, sizeof unit - 1, PIM_MESSAGES, "no end");
+    refused_unit(3, 0x1E, sizeof unit, PIM_MESSAGES, "a size that takes the end");
+    refused_unit(2, 0x05, sizeof unit, PIM_NOT_OURS, "another type of message");
+    refused_unit(11, 0x03, sizeof unit, PIM_NOT_OURS, "another wrapper");
+    refused_unit(12, 0x3B, sizeof unit, PIM_IDENTIFIER, "an app_identifier of 6: document 01's refusals come last");
+    longest_unit(PIM_UNIT_LIMIT - 1, PIM_DONE);
+    longest_unit(PIM_UNIT_LIMIT, PIM_DONE);
+    longest_unit(PIM_UNIT_LIMIT + 1, PIM_UNIT_HEADER);
     shader_numbers();
     tracks();
     printf(failed ? "failed\n" : "as the header says\n");

@@ -15,7 +15,9 @@ stop() {
     exit 1
 }
 
-[ -f target/bin/show ] || stop "there is no target/bin/show: rt check show proves and builds it"
+for program in show unit; do
+    [ -f "target/bin/$program" ] || stop "there is no target/bin/$program: rt check $program proves and builds it"
+done
 real=$(command -v rt) || stop "there is no command rt"
 room=$(mktemp -d) || exit 1
 trap 'rm -rf "$room"' EXIT
@@ -47,6 +49,17 @@ says_nothing
 try ./pim show </dev/null
 status_is 1
 prints samples/cut-short.listing
+try ./pim unit <samples/one-message.unit
+status_is 0
+prints samples/one-message.listing
+says_nothing
+try ./pim unit <samples/message-past-end.unit
+status_is 1
+prints samples/message-past-end.listing
+says_nothing
+try ./pim unit </dev/null
+status_is 1
+prints samples/other-unit-type.listing
 
 # from other folders, by a path from there, by an absolute path and through a link
 cd tests || exit 1
@@ -69,6 +82,7 @@ for words in '' help --help; do
     try ./pim $words
     status_is 0
     prints_word show
+    prints_word unit
     says_nothing
 done
 

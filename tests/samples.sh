@@ -1,7 +1,8 @@
 #!/usr/bin/env bash
-# The samples: each has its listing, samples/README.md has the bytes and the listing of each, and the program show prints exactly
-# the listing, whether the bytes come at once or one by one. Of an input longer than 4,096 bytes show reads the first 4,096.
-# show is run by ./pim, which knows how a program is run on this machine.
+# The samples: each has its listing, samples/README.md has the bytes and the listing of each, and its program, show for NAME.t35 and
+# unit for NAME.unit, prints exactly the listing, whether the bytes come at once or one by one. Of an input longer than 4,096 bytes
+# show reads the first 4,096, and unit of one longer than 4,097 the first 4,097.
+# The programs are run by ./pim, which knows how a program is run on this machine.
 set -uo pipefail
 export LC_ALL=C
 cd "$(dirname "$0")/.." || exit 1
@@ -17,32 +18,42 @@ stop() {
     exit 1
 }
 
-[ -f target/bin/show ] || stop "there is no target/bin/show: rt check show proves and builds it"
+for program in show unit; do
+    [ -f "target/bin/$program" ] || stop "there is no target/bin/$program: rt check $program proves and builds it"
+done
 room=$(mktemp -d) || exit 1
 trap 'rm -rf "$room"' EXIT
 mkfifo "$room/pipe" || exit 1
 
-# What a run of ./pim show left in $room/out: exactly this listing, and a status that says the same.
-judge() { # HOW LISTING STATUS
+# The program of a sample, by what its name ends in.
+program_of() { # FILE
+    case $1 in
+    *.unit) echo unit ;;
+    *) echo show ;;
+    esac
+}
+
+# What a run of ./pim PROGRAM left in $room/out: exactly this listing, and a status that says the same.
+judge() { # HOW PROGRAM LISTING STATUS
     local expected=1
-    [ "$(head -n 1 "$2")" != result=0 ] || expected=0
+    [ "$(head -n 1 "$3")" != result=0 ] || expected=0
     # status 2 is pim's own: every later run would fail alike
-    [ "$3" -ne 2 ] || stop "$1: ./pim show could not run the program"
-    if ! cmp -s "$room/out" "$2"; then
-        differs "$1: show does not print what $2 has:"
-        diff "$2" "$room/out"
-    elif [ "$3" -ne "$expected" ]; then
-        differs "$1: status $3 of ./pim show, and not $expected"
+    [ "$4" -ne 2 ] || stop "$1: ./pim $2 could not run the program"
+    if ! cmp -s "$room/out" "$3"; then
+        differs "$1: $2 does not print what $3 has:"
+        diff "$3" "$room/out"
+    elif [ "$4" -ne "$expected" ]; then
+        differs "$1: status $4 of ./pim $2, and not $expected"
     fi
 }
 
-# Feeds show a byte only once it has taken the one before: written faster, the bytes would wait in the pipe and come at once.
+# Feeds a program a byte only once it has taken the one before: written faster, the bytes would wait in the pipe and come at once.
 in_pieces() { # FILE
     local byte pid
     # open for both, so that opening waits for nobody; the program has the reading end alone, or its input would never end
     exec 3<>"$room/pipe"
     exec 4<"$room/pipe"
-    ./pim show <&4 3>&- 4<&- >"$room/out" &
+    ./pim "$(program_of "$1")" <&4 3>&- 4<&- >"$room/out" &
     pid=$!
     exec 4<&-
     for byte in $(od -An -v -tx1 "$1"); do
@@ -63,17 +74,21 @@ block() { # NAME WHICH
 }
 
 for listing in samples/*.listing; do
-    [ -f "${listing%.listing}.t35" ] || differs "$listing has no ${listing%.listing}.t35"
+    its=("${listing%.listing}".t35 "${listing%.listing}".unit)
+    found=0
+    for sample in "${its[@]}"; do [ ! -f "$sample" ] || found=$((found + 1)); done
+    [ "$found" -eq 1 ] || differs "$listing has $found samples, and not exactly one of ${its[*]}"
 done
-headings=$(sed -n 's/^### *\([^ ]*\.t35\)$/\1/p' samples/README.md)
+headings=$(sed -n 's/^### *\([^ ]*\.\(t35\|unit\)\)$/\1/p' samples/README.md)
 for name in $headings; do
     [ -f "samples/$name" ] || differs "samples/README.md has $name, and there is no such file"
 done
 
-samples=(samples/*.t35)
-[ "${#samples[@]}" -gt 0 ] || stop "there are no samples"
-for sample in "${samples[@]}"; do
-    name=${sample##*/} listing=${sample%.t35}.listing
+payloads=(samples/*.t35) units=(samples/*.unit)
+[ "${#payloads[@]}" -gt 0 ] || stop "there are no payloads"
+[ "${#units[@]}" -gt 0 ] || stop "there are no units"
+for sample in "${payloads[@]}" "${units[@]}"; do
+    name=${sample##*/} listing=${sample%.*}.listing program=$(program_of "$sample")
     [ -f "$listing" ] || {
         differs "$sample has no $listing"
         continue
@@ -95,27 +110,58 @@ for sample in "${samples[@]}"; do
     result=$(sed -n '1s/^result=//p' "$listing")
     grep -qF "| $name | $result |" samples/README.md || differs "the table of samples/README.md does not give $name the result $result"
 
-    ./pim show <"$sample" >"$room/out"
-    judge "$sample" "$listing" $?
+    ./pim "$program" <"$sample" >"$room/out"
+    judge "$sample" "$program" "$listing" $?
     in_pieces "$sample"
-    judge "$sample, byte by byte" "$listing" $?
+    judge "$sample, byte by byte" "$program" "$listing" $?
 done
 
+# A file that two commands read in turn is read on where the first stopped.
+reads_at_most() { # LIMIT HOW PROGRAM LISTING FILE
+    local size left expected=0
+    size=$(wc -c <"$5")
+    {
+        ./pim "$3" >"$room/out"
+        judge "$2, $size in all" "$3" "$4" $?
+        left=$(wc -c)
+    } <"$5"
+    [ "$size" -le "$1" ] || expected=$((size - $1))
+    [ "$left" -eq "$expected" ] || differs "of $size bytes $3 left $left unread, and not $expected"
+}
+
 # Behind a payload of 232 bytes at most there is nothing that could change the answer, so that the limit is kept shows in what is
-# left of the input: a file that two commands read in turn is read on where the first stopped.
-cp samples/one-block.t35 "$room/4096"
-truncate -s 4096 "$room/4096"
-cp "$room/4096" "$room/5000"
-truncate -s 5000 "$room/5000"
+# left of the input.
 echo result=12 >"$room/listing"
 for size in 4096 5000; do
-    {
-        ./pim show >"$room/out"
-        judge "one-block.t35 and zero bytes, $size in all" "$room/listing" $?
-        left=$(wc -c)
-    } <"$room/$size"
-    [ "$left" -eq $((size - 4096)) ] || differs "of $size bytes show left $left unread, and not $((size - 4096))"
+    cp samples/one-block.t35 "$room/long"
+    truncate -s "$size" "$room/long"
+    reads_at_most 4096 'one-block.t35 and zero bytes' show "$room/listing" "$room/long"
+done
+
+# one-message.unit with a message of type 5 before its own, so long that the unit has this many bytes: two header bytes, the type, a
+# byte FF of the size for each 255 of the content, the last byte of the size, the content.
+message=$(($(wc -c <samples/one-message.unit) - 2))
+long_unit() { # SIZE
+    local rest=$(($1 - 2 - message - 2)) links content
+    links=$((rest / 256))
+    content=$((rest - links))
+    head -c 2 samples/one-message.unit
+    printf '\x05'
+    head -c "$links" /dev/zero | tr '\0' '\377'
+    # shellcheck disable=SC2059 # a byte that is given by its number has to stand in the format
+    printf "\\x$(printf %02x $((content - 255 * links)))"
+    head -c "$content" /dev/zero | tr '\0' U
+    tail -c "$message" samples/one-message.unit
+}
+echo result=30 >"$room/listing"
+for size in 4095 4096 4097 5000; do
+    long_unit "$size" >"$room/long"
+    [ "$(wc -c <"$room/long")" -eq "$size" ] || stop "a unit of $size bytes was not made"
+    listing=samples/one-message.listing
+    [ "$size" -le 4096 ] || listing=$room/listing
+    reads_at_most 4097 'one-message.unit behind another message' unit "$listing" "$room/long"
 done
 
 [ "$failures" -eq 0 ] || stop "$failures things differ"
-printf 'tests/samples.sh: %s samples, at once and byte by byte, and the limit of 4,096 bytes\n' "${#samples[@]}"
+printf 'tests/samples.sh: %s payloads and %s units, at once and byte by byte, and the limits of their programs\n' \
+    "${#payloads[@]}" "${#units[@]}"

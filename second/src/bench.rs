@@ -6,21 +6,44 @@
 //! on both sides.
 
 use crate::compare::Track;
+use crate::made::Rng;
 use crate::own;
 use crate::proved;
 use crate::reader::WRAPPER;
 use crate::record::{block_to_flat, flat, Block, Record, BARE_BYTES, EMPTY, FLAT, WRAPPED_BYTES};
 use crate::track::{Point, FLAT_TABLE, POINTS};
+use crate::unit::UNIT_LIMIT;
+use crate::units::{message, ours, plan, UNIT_BYTES};
 use std::mem::MaybeUninit;
 
 /// The operations of `bench`.
-pub const OPERATIONS: [&str; 8] = [
-    "read8", "read44", "read224", "write8", "write44", "write224", "lookup40", "join40",
+pub const OPERATIONS: [&str; 11] = [
+    "read8",
+    "read44",
+    "read224",
+    "write8",
+    "write44",
+    "write224",
+    "lookup40",
+    "join40",
+    "unit4096",
+    "unitsmall",
+    "writeunit",
 ];
 
 /// The operations of `stack`.
-pub const STACK_OPERATIONS: [&str; 9] = [
-    "read8", "read224", "read232", "write224", "write232", "shader", "place", "lookup40", "join40",
+pub const STACK_OPERATIONS: [&str; 11] = [
+    "read8",
+    "read224",
+    "read232",
+    "write224",
+    "write232",
+    "shader",
+    "place",
+    "lookup40",
+    "join40",
+    "unit4096",
+    "writeunit",
 ];
 
 // The functions of both implementations.
@@ -106,6 +129,74 @@ fn payload(bytes: usize) -> (Vec<u8>, [i32; FLAT]) {
     (payload, numbers)
 }
 
+/// A unit of 4,096 bytes with as many messages as it can hold: each but the last
+/// has two bytes, its type and the size 0, and is of the type of ours, so that its
+/// content is looked at. No two zero bytes meet. It is put together by hand,
+/// because the preparation of an operation is counted instruction by instruction.
+fn small_messages() -> Vec<u8> {
+    let alone = plan(&[ours(&payload(8).0)]).unit();
+    let left = UNIT_LIMIT - alone.len();
+    let mut unit = alone[..2].to_vec();
+    if left % 2 == 1 {
+        // One message more than two bytes long, where their number is odd.
+        unit.extend([4, 1, 0x55]);
+    }
+    while unit.len() - 2 < left {
+        unit.extend([4, 0]);
+    }
+    unit.extend(&alone[2..]);
+    assert_eq!(unit.len(), UNIT_LIMIT);
+    unit
+}
+
+/// A unit of 4,096 bytes. Its last message is 01's example; before it stand
+/// messages such as a film has, some of them with emulation prevention.
+fn long_unit() -> Vec<u8> {
+    // A mastering display, whose lowest luminance begins with three zero bytes.
+    let display = [
+        0x33, 0xC2, 0x86, 0xC4, 0x1D, 0x4C, 0x0B, 0xB8, 0x84, 0xD0, 0x3E, 0x80, 0x3D, 0x13, 0x40,
+        0x42, 0x00, 0x98, 0x96, 0x80, 0x00, 0x00, 0x00, 0x32,
+    ];
+    let mut rng = Rng::new(UNIT_LIMIT as u64);
+    let mut any = |first: &[u8], n: usize| {
+        let mut content = first.to_vec();
+        content.extend((0..n).map(|_| rng.next() as u8));
+        content
+    };
+    // Captions, whose wrapper is ours up to the type code, mostly empty.
+    let mut captions = [&WRAPPER[..7], &[0x03]].concat();
+    for _ in 0..16 {
+        captions.extend([0xFA, 0x00, 0x00]);
+    }
+    let films = [
+        message(1, &[0x00, 0x00, 0x01, 0x00, 0x00, 0x00, 0x02]),
+        message(137, &display),
+        message(144, &[0x03, 0xE8, 0x01, 0x90]),
+        message(4, &captions),
+        message(4, &any(&[0xB5, 0x00, 0x3C, 0x00, 0x01, 0x04, 0x01], 60)),
+        message(5, &any(&[], 216)),
+        message(132, &any(&[0x00], 16)),
+    ];
+    let mut made = plan(&[ours(&payload(8).0)]);
+    for one in films.iter().cycle() {
+        let at = made.messages.len() - 1;
+        made.messages.insert(at, one.clone());
+        if made.unit().len() + 300 > UNIT_LIMIT {
+            break;
+        }
+    }
+    // No zeros, so as many bytes as are left.
+    while made.unit().len() < UNIT_LIMIT {
+        let left = UNIT_LIMIT - made.unit().len() - 2;
+        let n = if left > 200 { 150 } else { left };
+        let at = made.messages.len() - 1;
+        made.messages.insert(at, message(5, &vec![0x55; n]));
+    }
+    let unit = made.unit();
+    assert_eq!(unit.len(), UNIT_LIMIT);
+    unit
+}
+
 /// The bytes of the payloads of an operation.
 fn bytes_of(operation: &str) -> usize {
     let digits = operation.trim_start_matches(|c: char| !c.is_ascii_digit());
@@ -152,6 +243,38 @@ pub fn bench(operation: &str, own_one: bool, n: u64) -> Option<u64> {
             for _ in 0..n {
                 let number = write(&record, &mut output, &mut written);
                 sum = mix(sum, (number + written) as u64 + output[6] as u64);
+            }
+        }
+        "unit4096" | "unitsmall" => {
+            let read: Read = hidden(if own_one {
+                own::read_unit
+            } else {
+                proved::read_unit
+            });
+            let unit = if operation == "unit4096" {
+                long_unit()
+            } else {
+                small_messages()
+            };
+            let mut record = [0; FLAT];
+            let mut bits = 0;
+            for _ in 0..n {
+                let number = read(&unit, &mut record, &mut bits);
+                sum = mix(sum, (number + bits) as u64 + record[5] as u64);
+            }
+        }
+        "writeunit" => {
+            let write: Write = hidden(if own_one {
+                own::write_unit
+            } else {
+                proved::write_unit
+            });
+            let (_, record) = payload(224);
+            let mut output = [0; UNIT_BYTES];
+            let mut written = 0;
+            for _ in 0..n {
+                let number = write(&record, &mut output, &mut written);
+                sum = mix(sum, (number + written) as u64 + output[30] as u64);
             }
         }
         "lookup40" => {
@@ -256,7 +379,12 @@ fn used<F: Copy>(function: F, nothing: F, mut call: impl FnMut(F)) -> usize {
 /// The bytes of this implementation's record, point and table.
 pub fn sizes() -> String {
     let point = std::mem::size_of::<Point>();
-    format!("{} {} {}", std::mem::size_of::<Record>(), point, POINTS * point)
+    format!(
+        "{} {} {}",
+        std::mem::size_of::<Record>(),
+        point,
+        POINTS * point
+    )
 }
 
 /// The bytes of stack that one call uses.
@@ -313,6 +441,34 @@ pub fn stack(operation: &str, own_one: bool) -> Option<usize> {
                 own::write_bare
             } else {
                 proved::write_bare
+            };
+            used(
+                function,
+                |_, _, _| 0,
+                |write| number |= write(&record, &mut output, &mut 0),
+            )
+        }
+        "unit4096" => {
+            let unit = long_unit();
+            let mut record = [0; FLAT];
+            let function: Read = if own_one {
+                own::read_unit
+            } else {
+                proved::read_unit
+            };
+            used(
+                function,
+                |_, _, _| 0,
+                |read| number |= read(&unit, &mut record, &mut 0),
+            )
+        }
+        "writeunit" => {
+            let (_, record) = payload(224);
+            let mut output = [0; UNIT_BYTES];
+            let function: Write = if own_one {
+                own::write_unit
+            } else {
+                proved::write_unit
             };
             used(
                 function,

@@ -20,8 +20,10 @@ use crate::writer;
 pub enum Function {
     ReadBare,
     ReadWrapped,
+    ReadUnit,
     WriteBare,
     WriteWrapped,
+    WriteUnit,
     Shader,
     Place,
     Lookup,
@@ -29,8 +31,9 @@ pub enum Function {
 }
 
 /// The functions with their names and the answers that can occur: 0, the
-/// refusals that 01 gives them, and 13 for an argument of a wrong length.
-pub const FUNCTIONS: [(Function, &str, &[u32]); 8] = [
+/// refusals that 01 and 02 give them, and 13 for an argument of a wrong length.
+/// A unit's message begins with the eight wrapper bytes, so it never gets 3.
+pub const FUNCTIONS: [(Function, &str, &[u32]); 10] = [
     (
         Function::ReadBare,
         "read_bare",
@@ -41,13 +44,22 @@ pub const FUNCTIONS: [(Function, &str, &[u32]); 8] = [
         "read_wrapped",
         &[0, 1, 2, 3, 4, 5, 6, 7, 8, 9, 10, 11, 12, 13],
     ),
+    (
+        Function::ReadUnit,
+        "read_unit",
+        &[0, 1, 2, 4, 5, 6, 7, 8, 9, 10, 11, 12, 13, 30, 31, 32, 33],
+    ),
     (Function::WriteBare, "write_bare", &[0, 13, 14]),
     (Function::WriteWrapped, "write_wrapped", &[0, 13, 14]),
+    (Function::WriteUnit, "write_unit", &[0, 13, 14]),
     (Function::Shader, "shader", &[0, 13, 14]),
     (Function::Place, "place", &[0, 13, 14]),
     (Function::Lookup, "lookup", &[0, 13, 16]),
     (Function::Join, "join", &[0, 13, 15, 16]),
 ];
+
+/// One more than the highest number that a function gives.
+const NUMBERS: usize = 34;
 
 /// A table as it crosses the interface: for each point its picture, then its
 /// flat record. It can have any number of numbers; only 64 points are right.
@@ -142,13 +154,15 @@ const TABLE_ROOM: usize = FLAT_TABLE + FLAT_POINT + 2 * AROUND_TABLE;
 
 pub struct Compare {
     /// How often each function gave each number.
-    counts: [[u64; 17]; FUNCTIONS.len()],
+    counts: [[u64; NUMBERS]; FUNCTIONS.len()],
     /// Answers 0 of a lookup: nothing, a record.
     found: [u64; 2],
     /// Answers 0 of a placing: the empty track, a track of one point.
     placed: [u64; 2],
-    /// Round trips that came back to the same bytes, to the same record.
-    round_trips: [u64; 2],
+    /// Round trips that came back: from bytes to the same bytes, from a record
+    /// to the same record, and from a unit by the one that is written of its
+    /// record to the same record.
+    round_trips: [u64; 3],
     /// The part of the run and the case in it, for a failure's report.
     part: String,
     case: u64,
@@ -256,10 +270,10 @@ fn changed<T: PartialEq>(what: &str, before: &[T], after: &[T]) -> String {
 impl Compare {
     pub fn new() -> Compare {
         let mut compare = Compare {
-            counts: [[0; 17]; FUNCTIONS.len()],
+            counts: [[0; NUMBERS]; FUNCTIONS.len()],
             found: [0; 2],
             placed: [0; 2],
-            round_trips: [0; 2],
+            round_trips: [0; 3],
             part: String::new(),
             case: 0,
             pattern: 1,
@@ -362,6 +376,41 @@ impl Compare {
 
     /// Reads into a record of any length.
     pub fn read_lent(&mut self, wrapped: bool, input: &[u8], record_len: usize) -> u32 {
+        let function = if wrapped {
+            Function::ReadWrapped
+        } else {
+            Function::ReadBare
+        };
+        self.read_by(function, input, record_len)
+    }
+
+    /// Reads a unit. What was read is written as a unit, which is read back to
+    /// the same record.
+    pub fn read_unit(&mut self, unit: &[u8]) -> u32 {
+        let number = self.read_unit_lent(unit, FLAT);
+        if number == 0 {
+            let bits = self.single();
+            let mut record = [0; FLAT];
+            record.copy_from_slice(self.record());
+            let answer = self.write_unit(&record, OUTPUT);
+            if answer != 0 || self.single() != bits {
+                self.fail(
+                    "what was read is not written to a unit of the same data",
+                    &format!("unit: {}", hex(unit)),
+                    &format!("written: result {}", answer),
+                );
+            }
+            self.round_trips[2] += 1;
+        }
+        number
+    }
+
+    /// Reads a unit into a record of any length.
+    pub fn read_unit_lent(&mut self, unit: &[u8], record_len: usize) -> u32 {
+        self.read_by(Function::ReadUnit, unit, record_len)
+    }
+
+    fn read_by(&mut self, function: Function, input: &[u8], record_len: usize) -> u32 {
         self.next_case();
         self.fill_records();
         self.lent_bytes.clear();
@@ -371,18 +420,19 @@ impl Compare {
         let own_single = &mut self.own_single[1];
         let proved_record = &mut self.proved_record[lent];
         let proved_single = &mut self.proved_single[1];
-        let (function, own_number, proved_number) = if wrapped {
-            (
-                Function::ReadWrapped,
+        let (own_number, proved_number) = match function {
+            Function::ReadUnit => (
+                own::read_unit(input, own_record, own_single),
+                proved::read_unit(&self.lent_bytes, proved_record, proved_single),
+            ),
+            Function::ReadWrapped => (
                 own::read_wrapped(input, own_record, own_single),
                 proved::read_wrapped(&self.lent_bytes, proved_record, proved_single),
-            )
-        } else {
-            (
-                Function::ReadBare,
+            ),
+            _ => (
                 own::read_bare(input, own_record, own_single),
                 proved::read_bare(&self.lent_bytes, proved_record, proved_single),
-            )
+            ),
         };
         if own_number != proved_number
             || self.own_record != self.proved_record
@@ -454,11 +504,29 @@ impl Compare {
     /// Writes, and reads what was written back to the same record.
     pub fn write(&mut self, wrapped: bool, record: &[i32], out_len: usize) -> u32 {
         let number = self.write_lent(wrapped, record, out_len);
+        let read = if wrapped {
+            Function::ReadWrapped
+        } else {
+            Function::ReadBare
+        };
+        self.read_back(read, record, number);
+        number
+    }
+
+    /// Writes a unit, and reads it back to the same record.
+    pub fn write_unit(&mut self, record: &[i32], out_len: usize) -> u32 {
+        let number = self.write_unit_lent(record, out_len);
+        self.read_back(Function::ReadUnit, record, number);
+        number
+    }
+
+    /// Reads what the last call wrote, if it did, back to the same record.
+    fn read_back(&mut self, read: Function, record: &[i32], number: u32) {
         if number == 0 {
             let written = self.single() as usize;
             let mut payload = [0; OUTPUT];
             payload[..written].copy_from_slice(&self.own_output[AROUND..AROUND + written]);
-            let answer = self.read_lent(wrapped, &payload[..written], FLAT);
+            let answer = self.read_by(read, &payload[..written], FLAT);
             if answer != 0 || self.record() != record {
                 self.fail(
                     "what was written is not read back to the same record",
@@ -472,11 +540,29 @@ impl Compare {
             }
             self.round_trips[1] += 1;
         }
-        number
     }
 
     /// Writes a record of any length into an output of any length.
     pub fn write_lent(&mut self, wrapped: bool, record: &[i32], out_len: usize) -> u32 {
+        let function = if wrapped {
+            Function::WriteWrapped
+        } else {
+            Function::WriteBare
+        };
+        self.write_by(function, record, out_len)
+    }
+
+    /// Writes a record of any length as a unit into an output of any length.
+    pub fn write_unit_lent(&mut self, record: &[i32], out_len: usize) -> u32 {
+        self.write_by(Function::WriteUnit, record, out_len)
+    }
+
+    /// The bytes of the last write that was done.
+    pub fn written(&self) -> &[u8] {
+        &self.own_output[AROUND..AROUND + self.single() as usize]
+    }
+
+    fn write_by(&mut self, function: Function, record: &[i32], out_len: usize) -> u32 {
         self.next_case();
         self.fill_outputs(out_len);
         self.lent_record.clear();
@@ -487,18 +573,19 @@ impl Compare {
         let own_single = &mut self.own_single[1];
         let proved_output = &mut self.proved_output[lent];
         let proved_single = &mut self.proved_single[1];
-        let (function, own_number, proved_number) = if wrapped {
-            (
-                Function::WriteWrapped,
+        let (own_number, proved_number) = match function {
+            Function::WriteUnit => (
+                own::write_unit(record, own_output, own_single),
+                proved::write_unit(&self.lent_record, proved_output, proved_single),
+            ),
+            Function::WriteWrapped => (
                 own::write_wrapped(record, own_output, own_single),
                 proved::write_wrapped(&self.lent_record, proved_output, proved_single),
-            )
-        } else {
-            (
-                Function::WriteBare,
+            ),
+            _ => (
                 own::write_bare(record, own_output, own_single),
                 proved::write_bare(&self.lent_record, proved_output, proved_single),
-            )
+            ),
         };
         if own_number != proved_number
             || self.own_output[..room] != self.proved_output[..room]
@@ -876,10 +963,10 @@ impl Compare {
             self.placed[0], self.placed[1]
         );
         println!(
-            "  round trips: {} from bytes, {} from records",
-            self.round_trips[0], self.round_trips[1]
+            "  round trips: {} from bytes, {} from records, {} from units",
+            self.round_trips[0], self.round_trips[1], self.round_trips[2]
         );
-        for count in [self.found, self.placed, self.round_trips] {
+        for count in [&self.found[..], &self.placed, &self.round_trips] {
             if count.contains(&0) {
                 complete = false;
             }

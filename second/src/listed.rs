@@ -1,5 +1,6 @@
-//! 01, "Payloads and their outcome", as 01 lists them. Here both
-//! implementations are held against the paper, not only against each other.
+//! 01, "Payloads and their outcome", as 01 lists them, and units with the
+//! outcome that 02 gives them. Here both implementations are held against the
+//! papers, not only against each other.
 
 use crate::compare::Compare;
 use crate::made::{blocks, holding, Rng};
@@ -154,4 +155,150 @@ pub fn compare_listed(compare: &mut Compare) -> usize {
         }
     }
     LISTED.len()
+}
+
+// ------------------------------------------------------------------- units
+
+/// A message of ours with 01's payload 50, and one with its payload 51, which
+/// gets 7.
+const ACCEPTED: &str = "04 09 B5 00 31 47 41 39 34 09 50";
+const REFUSED: &str = "04 09 B5 00 31 47 41 39 34 09 51";
+
+/// What stands in a unit, `A` for ACCEPTED and `R` for REFUSED, and what the unit
+/// gets by 02, a.
+const UNITS: [(&str, u32); 76] = [
+    // Types 39 and 40, any layer, any temporal id plus one but 0.
+    ("4E 01 A 80", 0),
+    ("50 01 A 80", 0),
+    ("4E 07 A 80", 0),
+    ("4E F9 A 80", 0),
+    ("4F 01 A 80", 0),
+    ("51 FF A 80", 0),
+    // 30: "unit shorter than two bytes [..], first header bit set, temporal id
+    // plus one of 0, or another type"
+    ("", 30),
+    ("4E", 30),
+    ("50", 30),
+    ("CE 01 A 80", 30),
+    ("4E 00 A 80", 30),
+    ("4E F8 A 80", 30),
+    ("4C 01 A 80", 30),
+    ("52 01 A 80", 30),
+    ("0E 01 A 80", 30),
+    ("00 00 01 4E 01 A 80", 30),
+    // 31: "two zero bytes followed by 00, 01 or 02, or by 03 and then a byte
+    // above 03"
+    ("4E 01 00 00 00", 31),
+    ("4E 01 00 00 01", 31),
+    ("4E 01 00 00 02", 31),
+    ("4E 01 00 00 03 04", 31),
+    ("4E 01 00 00 03 80", 31),
+    ("4E 01 05 03 00 00 02 A 80", 31),
+    ("4E 01 A 05 04 00 00 03 04 80", 31),
+    ("4E 01 A 80 00 00 01", 31),
+    ("4E 01 A 80 00 00 03 FF", 31),
+    // Emulation prevention that is right, before ours, in it and behind it. The
+    // zeros of a content and of a type, of a size, and of an empty message.
+    ("4E 01 05 03 00 00 03 02 A 80", 0),
+    ("4E 01 05 03 00 00 03 03 A 80", 0),
+    ("4E 01 05 03 00 00 04 A 80", 0),
+    ("4E 01 05 05 00 00 03 00 00 03 00 A 80", 0),
+    ("4E 01 00 00 03 00 00 A 80", 0),
+    ("4E 01 05 02 00 00 03 01 00 A 80", 0),
+    ("4E 01 05 01 00 00 03 02 00 00 A 80", 0),
+    (
+        "4E 01 04 10 B5 00 31 47 41 39 34 09 5A 30 08 00 00 03 00 00 03 00 80",
+        0,
+    ),
+    (
+        "4E 01 04 10 B5 00 31 47 41 39 34 09 5A 30 08 00 00 00 00 00 80",
+        31,
+    ),
+    // 32: "no message at all"
+    ("4E 01", 32),
+    ("4E 01 80", 32),
+    // "a type, size or content that runs past the end": all of it is judged
+    // before a good message that stands before it.
+    ("4E 01 04", 32),
+    ("4E 01 FF", 32),
+    ("4E 01 FF FF", 32),
+    ("4E 01 04 FF", 32),
+    ("4E 01 04 FF FF", 32),
+    ("4E 01 04 01", 32),
+    ("4E 01 05 02 80", 32),
+    ("4E 01 A 05 02 00 80", 32),
+    ("4E 01 A 05", 32),
+    ("4E 01 A FF 80", 32),
+    ("4E 01 A 05 FF 80", 32),
+    ("4E 01 A 05 01 80", 32),
+    // "an end that is not the single byte 80 after a whole message"
+    ("4E 01 A", 32),
+    ("4E 01 A 00", 32),
+    ("4E 01 A 40", 32),
+    ("4E 01 A 81", 32),
+    ("4E 01 A C0", 32),
+    ("4E 01 A 80 00", 32),
+    ("4E 01 A 80 00 00", 32),
+    ("4E 01 A 80 80", 32),
+    ("4E 01 A 80 00 00 03", 32),
+    ("4E 01 A 00 00 03", 32),
+    ("4E 01 00 00 03", 32),
+    // 80 before another byte is the type 128.
+    ("4E 01 A 80 00 80", 0),
+    ("4E 01 80 00 A 80", 0),
+    ("4E 01 80 01 80 A 80", 0),
+    ("4E 01 80 00 80", 33),
+    // 33: "none of our messages". FF 04 is the type 259. A message of type 4
+    // that has fewer than eight bytes, or others, is not ours.
+    ("4E 01 05 00 80", 33),
+    ("4E 01 04 00 80", 33),
+    ("4E 01 04 07 B5 00 31 47 41 39 34 80", 33),
+    ("4E 01 04 09 B5 00 31 47 41 39 34 03 50 80", 33),
+    ("4E 01 05 09 B5 00 31 47 41 39 34 09 50 80", 33),
+    ("4E 01 FF 04 09 B5 00 31 47 41 39 34 09 50 80", 33),
+    ("4E 01 04 07 B5 00 31 47 41 39 34 04 00 FF 04 00 A 80", 0),
+    // The first of ours decides.
+    ("4E 01 R A 80", 7),
+    ("4E 01 A R 80", 0),
+    ("4E 01 04 08 B5 00 31 47 41 39 34 09 A 80", 1),
+    // 01's refusals behind those of the unit.
+    ("4E 01 R 80", 7),
+    ("4E 01 R", 32),
+    ("4E 00 R 00 00 01", 30),
+];
+
+/// Every listed unit. What is accepted is the empty record, or in the one with
+/// zeros in its data 01's payload with three zeros. Gives the number of units.
+pub fn compare_units(compare: &mut Compare) -> usize {
+    compare.begin("the units that 02 decides".to_string());
+    for (text, expected) in UNITS {
+        let spelled: Vec<&str> = text
+            .split_whitespace()
+            .map(|word| match word {
+                "A" => ACCEPTED,
+                "R" => REFUSED,
+                byte => byte,
+            })
+            .collect();
+        let unit = from_hex(&spelled.join(" "));
+        let number = compare.read_unit(&unit);
+        let mut as_listed = number == expected;
+        if number == 0 {
+            let mut record = [0; FLAT];
+            let mut bits = 8;
+            if !spelled.contains(&ACCEPTED) {
+                record[..3].copy_from_slice(&[1, 1, 1]);
+                bits = 64;
+            }
+            as_listed &= compare.record() == record && compare.single() == bits;
+        }
+        if !as_listed {
+            compare.fail(
+                "both implementations answer a listed unit otherwise than 02",
+                &format!("unit: {}", spelled.join(" ")),
+                &format!("02: {}, both: {}", expected, number),
+            );
+        }
+    }
+    UNITS.len()
 }

@@ -597,7 +597,7 @@ fn wrong_number(rng: &mut Rng, right: u32) -> u32 {
     }
 }
 
-fn random_bytes(rng: &mut Rng, n: usize) -> Vec<u8> {
+pub fn random_bytes(rng: &mut Rng, n: usize) -> Vec<u8> {
     (0..n).map(|_| rng.next() as u8).collect()
 }
 

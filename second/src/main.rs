@@ -1,6 +1,6 @@
 //! An independent second implementation of the record, its reader and writer,
-//! the shader numbers and the tracks, written from 01 and A/341 alone, and its
-//! comparison with the proved library. See README.md.
+//! the units, the shader numbers and the tracks, written from 01, 02, A/341 and
+//! H.265 alone, and its comparison with the proved library. See README.md.
 
 // The entry is C's `main`, not Rust's. Before Rust's `main` the runtime asks
 // for the bounds of the stack, glibc reads /proc/self/maps for it, and the
@@ -19,6 +19,8 @@ mod record;
 mod runs;
 mod shader;
 mod track;
+mod unit;
+mod units;
 mod writer;
 
 use compare::Compare;
@@ -90,6 +92,10 @@ fn compare_all(rounds: u64) -> c_int {
     println!("listed payloads: {}", listed);
     let small = runs::small_inputs(&mut compare);
     println!("inputs of 0, 1 and 2 bytes: {}", small);
+    let listed_units = listed::compare_units(&mut compare);
+    println!("listed units: {}", listed_units);
+    let small_units = units::small_units(&mut compare);
+    println!("units of all headers, and of few bytes: {}", small_units);
     for round in 0..rounds {
         let payloads = runs::made_payloads(&mut compare, round);
         let flips = runs::bit_flips(&mut compare, round);
@@ -105,6 +111,17 @@ fn compare_all(rounds: u64) -> c_int {
             writes,
             blocks,
             placings
+        );
+        let made = units::made_units(&mut compare, round);
+        let shaped = units::shaped_units(&mut compare, round);
+        let unit_writes = units::unit_writes(&mut compare, round);
+        println!(
+            "round {}: {} units ({} made with faults and without, {} of one shape, {} writes)",
+            round,
+            made + shaped + unit_writes,
+            made,
+            shaped,
+            unit_writes
         );
         let before = compare.joins_and_lookups();
         runs::full_tracks(&mut compare, round);

@@ -15,6 +15,7 @@ use crate::record::{block_from_flat, from_flat, to_flat, Record, FLAT, FLAT_BLOC
 use crate::shader;
 use crate::track::{self, point_from_flat, table_to_flat, Point};
 use crate::track::{CLEARED, FLAT_POINT, FLAT_TABLE, POINTS};
+use crate::unit;
 use crate::writer;
 
 fn give_read(answer: Result<(Record, u32), u32>, record: &mut [i32], bits: &mut u32) -> u32 {
@@ -42,6 +43,14 @@ pub fn read_wrapped(input: &[u8], record: &mut [i32], bits: &mut u32) -> u32 {
         return 13;
     }
     give_read(reader::read_wrapped(input), record, bits)
+}
+
+#[inline(never)]
+pub fn read_unit(input: &[u8], record: &mut [i32], bits: &mut u32) -> u32 {
+    if record.len() != FLAT {
+        return 13;
+    }
+    give_read(unit::read_unit(input), record, bits)
 }
 
 fn give_number(answer: Result<usize, u32>, number: &mut u32) -> u32 {
@@ -72,6 +81,17 @@ pub fn write_wrapped(record: &[i32], out: &mut [u8], written: &mut u32) -> u32 {
     }
     match from_flat(record) {
         Some(named) => give_number(writer::write_wrapped(&named, out), written),
+        None => 14,
+    }
+}
+
+#[inline(never)]
+pub fn write_unit(record: &[i32], out: &mut [u8], written: &mut u32) -> u32 {
+    if record.len() != FLAT {
+        return 13;
+    }
+    match from_flat(record) {
+        Some(named) => give_number(unit::write_unit(&named, out), written),
         None => 14,
     }
 }

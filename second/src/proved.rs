@@ -16,6 +16,13 @@ extern "C" {
         record_len: usize,
         bits: *mut u32,
     ) -> u32;
+    fn pim_read_unit(
+        input: *const u8,
+        n: usize,
+        record: *mut i32,
+        record_len: usize,
+        bits: *mut u32,
+    ) -> u32;
     fn pim_write_bare(
         record: *const i32,
         record_len: usize,
@@ -24,6 +31,13 @@ extern "C" {
         written: *mut u32,
     ) -> u32;
     fn pim_write_wrapped(
+        record: *const i32,
+        record_len: usize,
+        out: *mut u8,
+        n: usize,
+        written: *mut u32,
+    ) -> u32;
+    fn pim_write_unit(
         record: *const i32,
         record_len: usize,
         out: *mut u8,
@@ -89,6 +103,18 @@ pub fn read_wrapped(input: &[u8], record: &mut [i32], bits: &mut u32) -> u32 {
     }
 }
 
+pub fn read_unit(input: &[u8], record: &mut [i32], bits: &mut u32) -> u32 {
+    unsafe {
+        pim_read_unit(
+            input.as_ptr(),
+            input.len(),
+            record.as_mut_ptr(),
+            record.len(),
+            bits,
+        )
+    }
+}
+
 pub fn write_bare(record: &[i32], out: &mut [u8], written: &mut u32) -> u32 {
     unsafe {
         pim_write_bare(
@@ -104,6 +130,18 @@ pub fn write_bare(record: &[i32], out: &mut [u8], written: &mut u32) -> u32 {
 pub fn write_wrapped(record: &[i32], out: &mut [u8], written: &mut u32) -> u32 {
     unsafe {
         pim_write_wrapped(
+            record.as_ptr(),
+            record.len(),
+            out.as_mut_ptr(),
+            out.len(),
+            written,
+        )
+    }
+}
+
+pub fn write_unit(record: &[i32], out: &mut [u8], written: &mut u32) -> u32 {
+    unsafe {
+        pim_write_unit(
             record.as_ptr(),
             record.len(),
             out.as_mut_ptr(),

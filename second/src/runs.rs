@@ -10,7 +10,7 @@ use crate::record::{flat, EMPTY, FLAT, FLAT_BLOCK};
 use crate::track::{FLAT_POINT, FLAT_TABLE, POINTS};
 
 /// The lengths that are wrong for a flat record.
-const WRONG_RECORD_LENGTHS: [usize; 5] = [0, 1, 145, 147, 292];
+pub const WRONG_RECORD_LENGTHS: [usize; 5] = [0, 1, 145, 147, 292];
 
 /// The lengths that are wrong for a table: a number or a point too few or too
 /// many, nothing, one point, 63 points and one number, and the number of points
@@ -28,7 +28,7 @@ const WRONG_TABLE_LENGTHS: [usize; 8] = [
 
 /// Every part has its own stream of made inputs, and every round continues
 /// with other seeds.
-fn rng(part: u64, round: u64) -> Rng {
+pub fn rng(part: u64, round: u64) -> Rng {
     Rng::new(0x0094_1000_0000_0000 + (part << 32) + round)
 }
 
@@ -135,7 +135,7 @@ fn expect(compare: &Compare, input: &[u8], certain: Option<u32>, number: u32) {
 }
 
 /// The same for any call; the report names it by its part and its number.
-fn meant(compare: &Compare, number: u32, expected: u32) {
+pub fn meant(compare: &Compare, number: u32, expected: u32) {
     if number != expected {
         compare.fail(
             "both implementations answer otherwise than the call was meant",

@@ -7,17 +7,21 @@ use native.Mathlib.Omega.{arith}
 use borrow.Author.Tests.{ne-eqb, eq-eqb, leb-true}
 use lib.Dec.{eqb, leb}
 use lib.IntN.{ℤ}
-use lib.ListN.{length, take, drop, drop-of-length-le, length-append}
+use lib.ListN.{length, take, drop, drop-of-length-le}
 use lib.Seq.{paste, take-all}
 use Rattle.refusals.specs.Refusals.{unfitOutput, notValid, tooManyPoints, notATrack}
 use Rattle.output.specs.declared.Written.{Written}
 use Rattle.output.specs.Output.{writtenAs, bufferAs, fits}
 use Rattle.record.specs.declared.Record.{Record}
 use Rattle.record.specs.Blocks.{mostBlocks}
-use Rattle.valid.specs.Valid.{valid}
+use Rattle.valid.specs.Valid.{valid, Proper}
 use Rattle.syntax.specs.Element.{payload}
+use Rattle.syntax.specs.Wrapper.{wrappedPayload}
 use Rattle.syntax.proofs.Largest.{no-payload-is-longer, largest-length}
 use Rattle.reader.specs.declared.Reading.{Reading}
+use Rattle.messages.proofs.Writing.{wrapped-length}
+use Rattle.sei.specs.SeiUnit.{unitBytes}
+use Rattle.sei.proofs.Functions.{most-unit-bytes}
 use Rattle.plan.specs.declared.Scanned.{Scanned}
 use Rattle.plan.specs.declared.Layout.{Layout}
 use Rattle.plan.specs.declared.Sought.{Sought}
@@ -109,19 +113,32 @@ buffer-kept bytes good out n e = go good (fits bytes out) e
     go true false h = kept n out out (λ z. omega (arith, h, z))
     go false u h = kept n out out (λ z. omega (arith, h, z))
 
-few-bytes : (before : List ℕ) (r : Record) (out : List ℕ) → length before ≤ 8 → length (r .places) ≡ mostBlocks → writtenAs (before ++ payload r) (valid r) out .bytes < 4294967296
-few-bytes before r out h e = go (valid r) refl (fits (before ++ payload r) out)
+-- a coding of records whose code has few bytes, if the record is proper
+abbrev pub FewBytes : (Record → List ℕ) → Type 0
+FewBytes code = (r : Record) → Proper r → length (code r) < 4294967296
+
+pub few-payload-bytes : FewBytes payload
+few-payload-bytes r p = omega (arith, no-payload-is-longer r p, largest-length)
+
+pub few-wrapped-bytes : FewBytes wrappedPayload
+few-wrapped-bytes r p = omega (arith, wrapped-length r (p .places) (p .valid-record))
+
+pub few-unit-bytes : FewBytes unitBytes
+few-unit-bytes r p = omega (arith, most-unit-bytes r p)
+
+few-bytes : (code : Record → List ℕ) → FewBytes code → (r : Record) (out : List ℕ) → length (r .places) ≡ mostBlocks → writtenAs (code r) (valid r) out .bytes < 4294967296
+few-bytes code few r out e = go (valid r) refl (fits (code r) out)
   where
-    go : (t : Bool) → valid r ≡ t → (u : Bool) → answerBy (before ++ payload r) t u .bytes < 4294967296
-    go true v true = omega (arith, length-append before (payload r), no-payload-is-longer r (record { places = e; valid-record = v }), largest-length)
+    go : (t : Bool) → valid r ≡ t → (u : Bool) → answerBy (code r) t u .bytes < 4294967296
+    go true v true = few r (record { places = e; valid-record = v })
     go true v false = omega arith
     go false v u = omega arith
 
--- a row's record, written behind some bytes or none, as it is given
-module _ (before : List ℕ) (row : List ℤ) (out : List ℕ) (l : length row ≡ flatLength) {r : Record} (e : r ≡ recordIn (take flatLength (drop 0 row)))
-    {w : Written} (f : w ≡ writtenAs (before ++ payload r) (valid r) out) where
+-- a row's record, written in a coding, as it is given
+module _ (code : Record → List ℕ) (row : List ℤ) (out : List ℕ) (l : length row ≡ flatLength) {r : Record} (e : r ≡ recordIn (take flatLength (drop 0 row)))
+    {w : Written} (f : w ≡ writtenAs (code r) (valid r) out) where
   abbrev bytes : List ℕ
-  bytes = before ++ payload (recordIn row)
+  bytes = code (recordIn row)
 
   abbrev good : Bool
   good = valid (recordIn row)
@@ -130,18 +147,18 @@ module _ (before : List ℕ) (row : List ℤ) (out : List ℕ) (l : length row �
   whole = e ∙ ap recordIn (whole-row row flatLength l)
 
   answer : w ≡ writtenAs bytes good out
-  answer = f ∙ ap (λ (r : Record). writtenAs (before ++ payload r) (valid r) out) whole
+  answer = f ∙ ap (λ (r : Record). writtenAs (code r) (valid r) out) whole
 
-  pub few-written : length before ≤ 8 → w .bytes < 4294967296
-  few-written h = omega (arith, ap (λ (w : Written). w .bytes) answer, few-bytes before (recordIn row) out h (length-in row))
+  pub few-written : FewBytes code → w .bytes < 4294967296
+  few-written few = omega (arith, ap (λ (w : Written). w .bytes) answer, few-bytes code few (recordIn row) out (length-in row))
 
-  pub given-written : (k : ℕ) {out′ : List ℕ} {n k′ : ℕ} → out′ ≡ bufferAs (before ++ payload r) (valid r) out → n ≡ w .result → k′ ≡ after n (w .bytes) k
+  pub given-written : (k : ℕ) {out′ : List ℕ} {n k′ : ℕ} → out′ ≡ bufferAs (code r) (valid r) out → n ≡ w .result → k′ ≡ after n (w .bytes) k
       → (n ≡ ifSized (isRecord row) (writtenAs bytes good out .result)) × ((out′ ≡ after n (bufferAs bytes good out) out) × (k′ ≡ after n (writtenAs bytes good out .bytes) k))
   given-written k {n = n} g h i =
       let result = h ∙ ap (λ (w : Written). w .result) answer in (
         result ∙ right (isRecord row) (writtenAs bytes good out .result) (eq-eqb (length row) flatLength l),
         (
-          g ∙ ap (λ (r : Record). bufferAs (before ++ payload r) (valid r) out) whole ∙ buffer-kept bytes good out n result,
+          g ∙ ap (λ (r : Record). bufferAs (code r) (valid r) out) whole ∙ buffer-kept bytes good out n result,
           i ∙ ap (λ (w : Written). after n (w .bytes) k) answer,
         ),
       )

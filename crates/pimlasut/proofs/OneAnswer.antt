@@ -10,10 +10,14 @@ use Rattle.pimlasut.proofs.pim_read_bare.Kinds as pim-read-bare
 use Rattle.pimlasut.proofs.pim_read_bare.Reads as pim-read-bare-contract
 use Rattle.pimlasut.proofs.pim_read_wrapped.Kinds as pim-read-wrapped
 use Rattle.pimlasut.proofs.pim_read_wrapped.Reads as pim-read-wrapped-contract
+use Rattle.pimlasut.proofs.pim_read_unit.Kinds as pim-read-unit
+use Rattle.pimlasut.proofs.pim_read_unit.Reads as pim-read-unit-contract
 use Rattle.pimlasut.proofs.pim_write_bare.Kinds as pim-write-bare
 use Rattle.pimlasut.proofs.pim_write_bare.Reads as pim-write-bare-contract
 use Rattle.pimlasut.proofs.pim_write_wrapped.Kinds as pim-write-wrapped
 use Rattle.pimlasut.proofs.pim_write_wrapped.Reads as pim-write-wrapped-contract
+use Rattle.pimlasut.proofs.pim_write_unit.Kinds as pim-write-unit
+use Rattle.pimlasut.proofs.pim_write_unit.Reads as pim-write-unit-contract
 use Rattle.pimlasut.proofs.pim_place.Kinds as pim-place
 use Rattle.pimlasut.proofs.pim_place.Reads as pim-place-contract
 use Rattle.pimlasut.proofs.pim_lookup.Kinds as pim-lookup
@@ -42,11 +46,17 @@ pim-read-bare-one κs a x y s t e f = let p = e .0 ∙ sym (f .0) in (p, cc, cc)
 pub pim-read-wrapped-one : OneArrayAndNumber pim-read-wrapped.ps pim-read-wrapped.r pim-read-wrapped-contract.Post (λ κs s. now (s .1 .0)) (λ κs s. now (s .1 .1 .0))
 pim-read-wrapped-one κs a x y s t e f = let p = e .0 ∙ sym (f .0) in (p, cc, cc)
 
+pub pim-read-unit-one : OneArrayAndNumber pim-read-unit.ps pim-read-unit.r pim-read-unit-contract.Post (λ κs s. now (s .1 .0)) (λ κs s. now (s .1 .1 .0))
+pim-read-unit-one κs a x y s t e f = let p = e .0 ∙ sym (f .0) in (p, cc, cc)
+
 pub pim-write-bare-one : OneArrayAndNumber pim-write-bare.ps pim-write-bare.r pim-write-bare-contract.Post (λ κs s. now (s .1 .0)) (λ κs s. now (s .1 .1 .0))
 pim-write-bare-one κs a x y s t e f = let p = e .0 ∙ sym (f .0) in (p, cc, cc)
 
 pub pim-write-wrapped-one : OneArrayAndNumber pim-write-wrapped.ps pim-write-wrapped.r pim-write-wrapped-contract.Post (λ κs s. now (s .1 .0)) (λ κs s. now (s .1 .1 .0))
 pim-write-wrapped-one κs a x y s t e f = let p = e .0 ∙ sym (f .0) in (p, cc, cc)
+
+pub pim-write-unit-one : OneArrayAndNumber pim-write-unit.ps pim-write-unit.r pim-write-unit-contract.Post (λ κs s. now (s .1 .0)) (λ κs s. now (s .1 .1 .0))
+pim-write-unit-one κs a x y s t e f = let p = e .0 ∙ sym (f .0) in (p, cc, cc)
 
 pub pim-place-one : OneArrayAndNumber pim-place.ps pim-place.r pim-place-contract.Post (λ κs s. now (s .1 .1 .0)) (λ κs s. now (s .1 .1 .1 .0))
 pim-place-one κs a x y s t e f = let p = e .0 ∙ sym (f .0) in (p, cc, cc)

@@ -17,6 +17,7 @@ ghost use Rattle.record.specs.Blocks.{mostBlocks};
 ghost use Rattle.reader.specs.Reading.{readBare};
 ghost use Rattle.writer.specs.Writing.{writeBare, bareBuffer};
 ghost use Rattle.wrapper.specs.Wrapper.{readWrapped, writeWrapped, wrappedBuffer};
+ghost use Rattle.sei.specs.SeiUnit.{readUnit, writeUnit, unitBuffer};
 ghost use Rattle.shader.specs.Shader.{bitsIn, conversionResult, conversionBits};
 ghost use Rattle.plan.specs.Limit.{mostPoints};
 ghost use Rattle.track.specs.Track.{padded, placedPoints};
@@ -75,6 +76,19 @@ pub extern "C" fn pim_read_wrapped(input: &[u8], numbers: &mut [i32], bits: &mut
     give_reading(reading, numbers, bits)
 }
 
+#[no_mangle]
+pub extern "C" fn pim_read_unit(input: &[u8], numbers: &mut [i32], bits: &mut u32) -> u32
+    ensures result { λ r. ⌜ r ≡ ifSized (isRecord (now (numbers .entry))) (readUnit (now (input .entry)) .result) ⌝ }
+    ensures record { λ r. ⌜ now (numbers .exit) ≡ after r (flat (readUnit (now (input .entry)) .«record»)) (now (numbers .entry)) ⌝ }
+    ensures bits { λ r. ⌜ now (bits .exit) ≡ after r (readUnit (now (input .entry)) .bits) (now (bits .entry)) ⌝ }
+{
+    if numbers.len() != flat::NUMBERS {
+        return WRONG_LENGTH;
+    }
+    let reading = sei::read_unit(input);
+    give_reading(reading, numbers, bits)
+}
+
 // ---- writing
 
 fn give_written(answer: Written, written: &mut u32) -> u32
@@ -114,6 +128,20 @@ pub extern "C" fn pim_write_wrapped(numbers: &[i32], out: &mut [u8], written: &m
     }
     let r = flat::get_record(numbers, 0);
     let answer = wrapper::write_wrapped(r, out);
+    give_written(answer, written)
+}
+
+#[no_mangle]
+pub extern "C" fn pim_write_unit(numbers: &[i32], out: &mut [u8], written: &mut u32) -> u32
+    ensures result { λ r. ⌜ r ≡ ifSized (isRecord (now (numbers .entry))) (writeUnit (recordIn (now (numbers .entry))) (now (out .entry)) .result) ⌝ }
+    ensures buffer { λ r. ⌜ now (out .exit) ≡ after r (unitBuffer (recordIn (now (numbers .entry))) (now (out .entry))) (now (out .entry)) ⌝ }
+    ensures bytes { λ r. ⌜ now (written .exit) ≡ after r (writeUnit (recordIn (now (numbers .entry))) (now (out .entry)) .bytes) (now (written .entry)) ⌝ }
+{
+    if numbers.len() != flat::NUMBERS {
+        return WRONG_LENGTH;
+    }
+    let r = flat::get_record(numbers, 0);
+    let answer = sei::write_unit(r, out);
     give_written(answer, written)
 }
 

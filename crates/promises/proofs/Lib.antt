@@ -1,6 +1,7 @@
 pub mod Reading
 pub mod Reasons
 pub mod Writing
+pub mod Units
 pub mod Starred
 pub mod Listing
 pub mod TrackLaws

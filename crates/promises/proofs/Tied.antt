@@ -30,6 +30,11 @@ use Rattle.wrapper.proofs.read_wrapped.Kinds as read-wrapped
 use Rattle.wrapper.proofs.read_wrapped.Reads as read-wrapped-contract
 use Rattle.wrapper.proofs.write_wrapped.Kinds as write-wrapped
 use Rattle.wrapper.proofs.write_wrapped.Reads as write-wrapped-contract
+use Rattle.sei.specs.SeiUnit.{readUnit, writeUnit, unitBuffer}
+use Rattle.sei.proofs.read_unit.Kinds as read-unit
+use Rattle.sei.proofs.read_unit.Reads as read-unit-contract
+use Rattle.sei.proofs.write_unit.Kinds as write-unit
+use Rattle.sei.proofs.write_unit.Reads as write-unit-contract
 use Rattle.shader.specs.Shader.{conversionResult, conversionBits, bitsIn}
 use Rattle.shader.proofs.shader_numbers.Kinds as shader-numbers
 use Rattle.shader.proofs.shader_numbers.Reads as shader-numbers-contract
@@ -58,6 +63,14 @@ write-data-is κs a x s e = e
 pub write-wrapped-is : (κs : Lfts 1) (a : Dens κs write-wrapped.ps) (x : resT write-wrapped.r κs .Denot) (s : AtExit (endedOf 1 write-wrapped.ps write-wrapped.r) κs) → write-wrapped-contract.Post κs a x s
     → (x ≡ writeWrapped (a .0) (now (a .1 .0))) × (now (s .1 .0) ≡ wrappedBuffer (a .0) (now (a .1 .0)))
 write-wrapped-is κs a x s e = e
+
+pub read-unit-is : (κs : Lfts 1) (a : Dens κs read-unit.ps) (x : resT read-unit.r κs .Denot) (s : AtExit (endedOf 1 read-unit.ps read-unit.r) κs) → read-unit-contract.Post κs a x s
+    → x ≡ readUnit (now (a .0))
+read-unit-is κs a x s e = e
+
+pub write-unit-is : (κs : Lfts 1) (a : Dens κs write-unit.ps) (x : resT write-unit.r κs .Denot) (s : AtExit (endedOf 1 write-unit.ps write-unit.r) κs) → write-unit-contract.Post κs a x s
+    → (x ≡ writeUnit (a .0) (now (a .1 .0))) × (now (s .1 .0) ≡ unitBuffer (a .0) (now (a .1 .0)))
+write-unit-is κs a x s e = e
 
 pub write-listing-is : (κs : Lfts 1) (a : Dens κs write-listing.ps) (x : resT write-listing.r κs .Denot) (s : AtExit (endedOf 1 write-listing.ps write-listing.r) κs) → write-listing-contract.Post κs a x s
     → (x ≡ writeListing (a .0) (now (a .1 .0))) × (now (s .1 .0) ≡ listingBuffer (a .0) (now (a .1 .0)))
@@ -88,6 +101,12 @@ write-data-asks-nothing κs a = tt
 
 pub write-wrapped-asks-nothing : (κs : Lfts 1) (a : Dens κs write-wrapped.ps) → write-wrapped-contract.Pre κs a
 write-wrapped-asks-nothing κs a = tt
+
+pub read-unit-asks-nothing : (κs : Lfts 1) (a : Dens κs read-unit.ps) → read-unit-contract.Pre κs a
+read-unit-asks-nothing κs a = tt
+
+pub write-unit-asks-nothing : (κs : Lfts 1) (a : Dens κs write-unit.ps) → write-unit-contract.Pre κs a
+write-unit-asks-nothing κs a = tt
 
 pub shader-numbers-asks-nothing : (κs : Lfts 0) (a : Dens κs shader-numbers.ps) → shader-numbers-contract.Pre κs a
 shader-numbers-asks-nothing κs a = tt

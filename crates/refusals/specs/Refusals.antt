@@ -1,4 +1,4 @@
--- 01, Refusal numbers: each is named here, and nowhere else.
+-- 01, Refusal numbers, and those of 02's requests: each is named here, and nowhere else.
 use Prim.Native.Nat.{ℕ}
 use Rattle.refusals.specs.declared.Refusal.{Refusal}
 
@@ -69,3 +69,19 @@ tooManyPoints = 15
 -- not a track
 abbrev pub notATrack : ℕ
 notATrack = 16
+
+-- 02, a: a unit shorter than two bytes or above 4,096, first header bit set, temporal id plus one of 0, or another type
+abbrev pub wrongUnit : ℕ
+wrongUnit = 30
+
+-- 02, a: two zero bytes followed by 00, 01 or 02, or by 03 and then a byte above 03
+abbrev pub startCodeInside : ℕ
+startCodeInside = 31
+
+-- 02, a: no message at all, a type, size or content that runs past the end, or an end that is not the single byte 80 after a whole message
+abbrev pub brokenMessages : ℕ
+brokenMessages = 32
+
+-- 02, a: none of our messages
+abbrev pub noneOfOurs : ℕ
+noneOfOurs = 33

@@ -1,4 +1,4 @@
-// The refusal numbers of document 01, each named once. Nothing here knows a syntax.
+// The refusal numbers of document 01 and of the requests after it, each named once. Nothing here knows a syntax.
 
 // Why something is refused. Made where the fault is found, and passed on as it is.
 pub struct Refusal {
@@ -37,4 +37,12 @@ impl Refusal {
     pub const TOO_MANY_POINTS: u8 = 15;
 
     pub const NOT_A_TRACK: u8 = 16;
+
+    pub const WRONG_UNIT: u8 = 30;
+
+    pub const START_CODE_INSIDE: u8 = 31;
+
+    pub const BROKEN_MESSAGES: u8 = 32;
+
+    pub const NONE_OF_OURS: u8 = 33;
 }

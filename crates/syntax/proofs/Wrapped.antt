@@ -90,7 +90,7 @@ every-proper-beginning-of-a-wrapped-payload-gets-1 r p s t e h =
     a-wrapped-beginning-is-cut-off «wrapper» «end» wrapperBytes wrapper-is-bytes «ST2094-10_data» (bitsOf s) (bitsOf t) r (bitsOfData r) a (omega (arith, length-bits t))
 
 -- the data behind the wrapper's bytes
-handed-on : (s : List ℕ) → wrappedData (bitsOf (wrapperBytes ++ s)) ≡ bareData (bitsOf s)
+pub handed-on : (s : List ℕ) → wrappedData (bitsOf (wrapperBytes ++ s)) ≡ bareData (bitsOf s)
 handed-on s = ap wrappedData (bits-append wrapperBytes s) ∙ generic.behind-the-wrapper «wrapper» wrapperBytes «end» «ST2094-10_data» wrapper-is-bytes (bitsOf s)
 
 -- a wrapped payload with anything behind it gets 12, and only such an input does

@@ -13,7 +13,7 @@ use lib.Seq.{drop-cons, drop-drop, drop-at, take-all, length-take-le}
 use borrow.Rule.Slice.PartMut.{putMid}
 use Rattle.refusals.specs.Refusals.{refusal, pastEnd, wrapperDiffers, unfitOutput, notValid}
 use Rattle.refusals.specs.declared.Refusal.{Refusal}
-use Rattle.tree.specs.Bits.{bitsOf}
+use Rattle.tree.specs.Bits.{bitsOf, Bytes}
 use Rattle.tree.specs.Reading.{Fault, cutOff, numberIn, breaks, Out, ok, no, widened}
 use Rattle.tree.specs.Coding.{unsigned, fixed}
 use Rattle.tree.specs.Syntax.{rangeRule, read}
@@ -32,7 +32,7 @@ use Rattle.syntax.specs.Data.{bareData}
 use Rattle.syntax.specs.Wrapper.{wrapperBytes, wrappedData}
 use Rattle.reader.specs.Reading.{readingOf, refusedReading}
 use Rattle.wrapper.specs.declared.Wrapper.the-variants.{There, Refused}
-use Rattle.wrapper.specs.Wrapper.{wrapperOf, withoutRoom}
+use Rattle.wrapper.specs.Wrapper.{beginsWith, wrapperOf, withoutRoom}
 
 -- ---- the bytes, one by one
 
@@ -110,6 +110,36 @@ wrapped-is s e = go (is-there (read (wrapperTable «wrapper» wrapperBytes) 0 (b
         let k : length (bitsOf (take 8 s)) ≡ 64 = omega (arith, length-bits (take 8 s), length-take-le 8 s l) in
         let d : drop 64 (bitsOf s) ≡ bitsOf (drop 8 s) = ap (drop 64) b ∙ drop-at (bitsOf (take 8 s)) (bitsOf (drop 8 s)) 64 k in
         (l, sym (rw (q, w, d) refl))
+
+-- ---- whether they are there
+
+-- the wrapper's table is met
+abbrev isMet : Out Name (Unit {0}) → Bool
+isMet (ok t n) = true
+isMet (no f) = false
+
+-- exactly if the bytes begin with the table's
+met-begins : (ws : List ℕ) (at : ℕ) (s : List ℕ) → Bytes s → isMet (read (wrapperTable «wrapper» ws) at (bitsOf s)) ≡ beginsWith ws s
+unfolding beginsWith read wrapperTable
+met-begins [] at s h = refl
+met-begins (w ∷ ws) at [] h = ap isMet (wrapper-end «wrapper» w ws at)
+met-begins (w ∷ ws) at (b ∷ s) h = ap isMet (wrapper-byte «wrapper» w ws at b s (h .0)) ∙ go (eqb b w) (met-begins ws (at + 8) s (h .1))
+  where
+    further : (o : Out Name (Unit {0})) → isMet (widened 8 o) ≡ isMet o
+    further (ok t n) = refl
+    further (no f) = refl
+
+    go : (e : Bool) → isMet (read (wrapperTable «wrapper» ws) (at + 8) (bitsOf s)) ≡ beginsWith ws s
+        → isMet (cond e (widened 8 (read (wrapperTable «wrapper» ws) (at + 8) (bitsOf s))) (no (breaks (rangeRule «wrapper» wrapperDiffers (pos w) (pos w) at (pos b))))) ≡ (e && beginsWith ws s)
+    go true q = further (read (wrapperTable «wrapper» ws) (at + 8) (bitsOf s)) ∙ q
+    go false q = refl
+
+module _ (s : List ℕ) (h : Bytes s) where
+  pub begins-there : There ≡ wrapperOf (read (wrapperTable «wrapper» wrapperBytes) 0 (bitsOf s)) → true ≡ beginsWith wrapperBytes s
+  begins-there e = sym (ap isMet (is-there (read (wrapperTable «wrapper» wrapperBytes) 0 (bitsOf s)) e .1)) ∙ met-begins wrapperBytes 0 s h
+
+  pub begins-not : (r : Refusal) → Refused r ≡ wrapperOf (read (wrapperTable «wrapper» wrapperBytes) 0 (bitsOf s)) → false ≡ beginsWith wrapperBytes s
+  begins-not r e = sym (ap isMet (is-refused (read (wrapperTable «wrapper» wrapperBytes) 0 (bitsOf s)) r e .1)) ∙ met-begins wrapperBytes 0 s h
 
 -- ---- writing
 

@@ -1,7 +1,8 @@
 -- What the functions of the wrapper answer, and on the way to it.
 use Prim.Native.Nat.{ℕ}
-use mathlib.Core.List.{List}
-use mathlib.Core.Bool.{Bool, cond}
+use mathlib.Core.List.{List, [], _∷_}
+use mathlib.Core.Bool.{Bool, true, false, cond, _&&_}
+use lib.Dec.{eqb}
 use Rattle.refusals.specs.Refusals.{refusal, unfitOutput, notValid}
 use Rattle.tree.specs.Bits.{bitsOf}
 use Rattle.tree.specs.Reading.{numberIn, Out, ok, no}
@@ -15,6 +16,12 @@ use Rattle.reader.specs.declared.Reading.{Reading}
 use Rattle.reader.specs.Reading.{readingOf}
 use Rattle.wrapper.specs.declared.Wrapper.{Wrapper}
 use Rattle.wrapper.specs.declared.Wrapper.the-variants.{There, Refused}
+
+-- bytes begin with these
+unfoldable pub beginsWith : List ℕ → List ℕ → Bool
+beginsWith [] s = true
+beginsWith (w ∷ ws) [] = false
+beginsWith (w ∷ ws) (b ∷ s) = eqb b w && beginsWith ws s
 
 -- read_wrapped
 abbrev pub readWrapped : List ℕ → Reading

@@ -15,7 +15,7 @@ ghost use Rattle.syntax.specs.Element.{payload};
 ghost use Rattle.syntax.specs.Largest.{largest};
 ghost use Rattle.syntax.specs.Wrapper.{wrapperBytes, wrappedPayload};
 ghost use Rattle.reader.specs.Reading.{refusedReading};
-ghost use Rattle.wrapper.specs.Wrapper.{readWrapped, writeWrapped, wrappedBuffer, wrapperOf, withoutRoom};
+ghost use Rattle.wrapper.specs.Wrapper.{beginsWith, readWrapped, writeWrapped, wrappedBuffer, wrapperOf, withoutRoom};
 
 // How many bytes the wrapper has.
 const WRAPPER_BYTES: usize = 8;
@@ -68,7 +68,18 @@ fn check_wrapper(input: &[u8]) -> Wrapper
     Wrapper::There
 }
 
-fn refused(why: Refusal) -> Reading
+// Whether an input begins with the wrapper's bytes.
+pub fn has_wrapper(input: &[u8]) -> bool
+    ensures { λ r. ⌜ r ≡ beginsWith wrapperBytes (now (input .entry)) ⌝ }
+{
+    match check_wrapper(input) {
+        Wrapper::Refused { .. } => false,
+        Wrapper::There => true,
+    }
+}
+
+// 01, The record: beside a refusal the record is empty.
+pub fn refused(why: Refusal) -> Reading
     ensures { λ r. ⌜ r ≡ refusedReading (why .number) ⌝ }
 {
     let record = Record::empty();
@@ -105,7 +116,7 @@ fn put_wrapper(out: &mut [u8])
 }
 
 // The answer where not even the wrapper has room: 14 before 13.
-fn without_room(good: bool) -> Written
+pub fn without_room(good: bool) -> Written
     ensures { λ w. ⌜ w ≡ withoutRoom good ⌝ }
 {
     if good {

@@ -1,0 +1,1 @@
+// The messages of an SEI unit: definitions in specs/, their laws in proofs/. No code.
