@@ -35,12 +35,13 @@ abbrev pub allowedHeader : ℕ → ℕ → Bool
 allowedHeader first second =
     eqb («forbidden_zero_bit» first) 0 && ((eqb («nal_unit_type» first) prefixType || eqb («nal_unit_type» first) suffixType) && not (eqb («nuh_temporal_id_plus1» second) 0))
 
--- a unit that is long enough, not too long, and has such a header
+-- a unit that is long enough begins with such a header
 abbrev pub beginsAllowed : List ℕ → Bool
 beginsAllowed [] = false
 beginsAllowed (a ∷ []) = false
 beginsAllowed (a ∷ b ∷ s) = allowedHeader a b
 
+-- and is not too long
 abbrev pub admitted : List ℕ → Bool
 admitted u = leb (length u) mostUnitBytes && beginsAllowed u
 

@@ -45,7 +45,7 @@ pub record HoldsOurs (u : List ℕ) (m : Message) : Type 0 where
   pub all : bodyOf u ≡ «sei_rbsp» messages
   pub first : FirstOurs messages m
 
--- what a unit is that is none of 30, 31 and 32: a header as 02 allows, then the one escaping of messages and the byte 80
+-- the form of every unit that is none of 30, 31 and 32: a header as 02 allows, then the one escaping of its messages and the byte 80
 pub record IsUnit (u : List ℕ) (ms : List Message) : Type 0 where
   pub first : ℕ
   pub second : ℕ
