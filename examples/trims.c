@@ -13,8 +13,8 @@
 
 #include "pimlasut.h"
 
-/* A payload has at most PIM_WRAPPED_BYTES; with one byte more, what is too long is seen to be so. */
-static uint8_t payload[PIM_WRAPPED_BYTES + 1];
+/* A payload that is accepted has at most PIM_LONGEST_WRAPPED; with one byte more, what is too long is seen to be so. */
+static uint8_t payload[PIM_LONGEST_WRAPPED + 1];
 
 static size_t from_arguments(int count, char **arguments)
 {
@@ -35,8 +35,8 @@ int main(int count, char **arguments)
 {
     size_t n = count > 1 ? from_arguments(count, arguments) : fread(payload, 1, sizeof payload, stdin);
     int32_t record[PIM_RECORD_LEN];
-    uint32_t bits_read;
-    uint32_t result = pim_read_wrapped(payload, n, record, PIM_RECORD_LEN, &bits_read);
+    uint32_t reading[PIM_READING_LEN];
+    uint32_t result = pim_read_wrapped(payload, n, record, PIM_RECORD_LEN, reading, PIM_READING_LEN);
     if (result != PIM_DONE) {
         printf("refused: %u\n", (unsigned)result);
         return 1;

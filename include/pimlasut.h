@@ -6,7 +6,8 @@
  * nothing, and keeps nothing from one call to the next.
  *
  * Every function is proved to answer as is said here, for every input (crates/pimlasut). It answers a result number:
- * 0 means done, any other is a refusal. ON A REFUSAL EVERY ARRAY AND EVERY SINGLE NUMBER STAYS AS IT WAS.
+ * 0 means done, any other is a refusal. ON A REFUSAL EVERY ARRAY AND EVERY SINGLE NUMBER STAYS AS IT WAS, with one
+ * exception: the facts of a reading (`reading`) are then all zeros, if they have their length.
  *
  * What a caller owes: each pointer is not null, also where a length is 0, and is aligned for its type; `x` and `x_len` name
  * an array of x_len elements (not bytes) that can be read, and written where it is not const; what is written overlaps
@@ -43,9 +44,29 @@ extern "C" {
 #define PIM_PLACE(i) (2 + PIM_PLACE_LEN * (i))
 #define PIM_RECORD_LEN PIM_PLACE(PIM_BLOCKS) /* 146 */
 
-/* No payload is longer, bare and wrapped. */
+/*
+ * A reserved block is one of any level but 1, 2 and 5; 0 and 255 are reserved too. It is passed over by its length, 0 to
+ * 1,023 bytes of any content: no place of a record holds it, the count of blocks does not count it, and it is never
+ * written. So two payloads can have the same record, but only where one of them has reserved blocks: a cache goes by the
+ * record, or by the payload that is written of it, and not by the bytes that were read.
+ */
+
+/* No payload that is written is longer, bare and wrapped. */
 #define PIM_BARE_BYTES 224
 #define PIM_WRAPPED_BYTES 232
+
+/* No bare payload that is accepted is longer: 254 reserved blocks of 1,023 bytes. */
+#define PIM_LONGEST_BARE 260766
+/* And no wrapped one. */
+#define PIM_LONGEST_WRAPPED 260774
+
+/*
+ * The facts of a reading are PIM_READING_LEN numbers, each in a named place. A caller declares
+ * `uint32_t reading[PIM_READING_LEN]`; a later version may add places, and changes none.
+ */
+#define PIM_READING_BITS 0    /* the bits read, wrapper not counted; those of reserved blocks are */
+#define PIM_READING_SKIPPED 1 /* the number of reserved blocks that were passed over */
+#define PIM_READING_LEN 2
 
 /* So many bytes always suffice to write a unit. A unit that is read has at most PIM_UNIT_LIMIT, as it arrives. */
 #define PIM_UNIT_BYTES 354
@@ -79,15 +100,17 @@ enum {
     PIM_WRAPPER = 3,        /* a wrapper byte differs */
     PIM_IDENTIFIER = 4,     /* app_identifier is not 1 */
     PIM_VERSION = 5,        /* app_version is not 0 */
-    PIM_MANY_BLOCKS = 6,    /* num_ext_blocks is above 18 */
+    PIM_MANY_BLOCKS = 6,    /* num_ext_blocks is above 254 */
     PIM_ZERO_BIT = 7,       /* a zero bit is a one */
-    PIM_LEVEL = 8,          /* level is not 1, 2 or 5 */
-    PIM_LENGTH = 9,         /* length is not the level's */
+    PIM_LEVEL = 8,          /* no longer occurs: blocks of levels other than 1, 2 and 5 are passed over */
+    PIM_LENGTH = 9,         /* length is not the level's, or that of a reserved block is above 1,023; whether the content is
+                               there or not */
     PIM_ORDER = 10,         /* level 1 not in order min <= avg <= max */
     PIM_REPEAT = 11,        /* second level 1, second level 5, 17th level 2, or a target_max_PQ already met */
     PIM_BYTES_REMAIN = 12,  /* bytes remain after the data */
     PIM_SHORT = 13,         /* output shorter than needed, or a result table that has not exactly 64 entries; and here, before
-                               everything else, any record, block or table that has not exactly its length */
+                               everything else, any record, facts of a reading, block or table that has not exactly its
+                               length */
     PIM_NOT_VALID = 14,     /* record to be written or placed is not valid, or block to be converted is not a level 2 block
                                in range */
     PIM_MANY_POINTS = 15,   /* a join has more than 64 different numbers */
@@ -102,11 +125,14 @@ enum {
 };
 
 /*
- * Read a payload of n bytes, bare or behind the eight wrapper bytes. Done: the record, and the bits read (the wrapper not
- * counted). Refused: 13 if record_len is not PIM_RECORD_LEN; else 1 to 12, by the first failure from left to right.
+ * Read a payload of n bytes, bare or behind the eight wrapper bytes. Done: the record of its known blocks, and the facts of
+ * the reading. Refused: 13 if record_len is not PIM_RECORD_LEN or reading_len is not PIM_READING_LEN; else 1 to 7 or 9 to
+ * 12, by the first failure from left to right. On every refusal the record stays as it was, and reading is all zeros; only
+ * where reading_len is not PIM_READING_LEN it stays as it was too.
  */
-uint32_t pim_read_bare(const uint8_t *in, size_t n, int32_t *record, size_t record_len, uint32_t *bits);
-uint32_t pim_read_wrapped(const uint8_t *in, size_t n, int32_t *record, size_t record_len, uint32_t *bits);
+uint32_t pim_read_bare(const uint8_t *in, size_t n, int32_t *record, size_t record_len, uint32_t *reading, size_t reading_len);
+uint32_t pim_read_wrapped(const uint8_t *in, size_t n, int32_t *record, size_t record_len, uint32_t *reading,
+                          size_t reading_len);
 
 /*
  * Write a record's payload into the first bytes of out, bare or behind the eight wrapper bytes; later bytes stay. Done:
@@ -119,10 +145,12 @@ uint32_t pim_write_wrapped(const int32_t *record, size_t record_len, uint8_t *ou
 /*
  * Read an SEI unit of n bytes, a prefix unit (type 39) or a suffix unit (type 40), from its header on, without a start code.
  * The first message of type 4 that begins with the eight wrapper bytes is read as pim_read_wrapped reads it, and the others
- * are passed over. Done: the record, and the bits read of that message's data. Refused: 13 if record_len is not
- * PIM_RECORD_LEN; else 30, then 31, then 32, then 33, each over the whole unit; else 1, 2 or 4 to 12, by that message.
+ * are passed over. Done: the record, and the facts of the reading of that message's data; only blocks count as passed over
+ * there, not messages. Refused: 13 if record_len is not PIM_RECORD_LEN or reading_len is not PIM_READING_LEN; else 30, then
+ * 31, then 32, then 33, each over the whole unit; else 1, 2, 4 to 7 or 9 to 12, by that message. A refusal leaves record and
+ * reading as one of pim_read_wrapped does.
  */
-uint32_t pim_read_unit(const uint8_t *in, size_t n, int32_t *record, size_t record_len, uint32_t *bits);
+uint32_t pim_read_unit(const uint8_t *in, size_t n, int32_t *record, size_t record_len, uint32_t *reading, size_t reading_len);
 
 /*
  * Write a prefix unit into the first bytes of out: layer 0, temporal id plus one of 1, and the record's message alone; later

@@ -24,27 +24,136 @@ static int32_t record[PIM_RECORD_LEN], old_record[PIM_RECORD_LEN];
 static int32_t first[PIM_TABLE_LEN], second[PIM_TABLE_LEN], table[PIM_TABLE_LEN], old_table[PIM_TABLE_LEN], zeros[PIM_TABLE_LEN];
 static uint8_t bytes[PIM_UNIT_LIMIT + 4], old_bytes[PIM_UNIT_LIMIT + 4];
 
+/* The facts of a reading, between numbers that are not lent. */
+static uint32_t facts[PIM_READING_LEN + 2];
+static uint32_t *const reading = facts + 1;
+
+static void fill_facts(void)
+{
+    for (int i = 0; i < PIM_READING_LEN + 2; i++)
+        facts[i] = 7;
+}
+
+static int facts_are(uint32_t bits, uint32_t skipped)
+{
+    return facts[0] == 7 && reading[PIM_READING_BITS] == bits && reading[PIM_READING_SKIPPED] == skipped &&
+           facts[PIM_READING_LEN + 1] == 7;
+}
+
 static void reading_and_writing(void)
 {
-    uint32_t written = 7, bits = 7;
+    uint32_t written = 7;
+    fill_facts();
     memset(bytes, 0xEE, sizeof bytes);
     expect(pim_write_wrapped(two_blocks, PIM_RECORD_LEN, bytes, sizeof bytes, &written) == 0, "write wrapped");
     expect(written == 8 + sizeof payload && bytes[written] == 0xEE, "the bytes written, and later ones stay");
     expect(memcmp(bytes, "\xB5\x00\x31\x47\x41\x39\x34\x09", 8) == 0 && memcmp(bytes + 8, payload, sizeof payload) == 0, "the payload");
-    expect(pim_read_wrapped(bytes, written, record, PIM_RECORD_LEN, &bits) == 0, "read wrapped");
+    expect(pim_read_wrapped(bytes, written, record, PIM_RECORD_LEN, reading, PIM_READING_LEN) == 0, "read wrapped");
     expect(memcmp(record, two_blocks, sizeof record) == 0, "what was written is read");
-    expect(bits == 8 * (written - 8), "bits read, without the wrapper");
-    expect(pim_read_bare(bytes + 8, written - 8, record, PIM_RECORD_LEN, &bits) == 0 && bits == 8 * (written - 8), "read bare");
+    expect(facts_are(8 * (written - 8), 0), "bits read, without the wrapper, and nothing passed over");
+    fill_facts();
+    expect(pim_read_bare(bytes + 8, written - 8, record, PIM_RECORD_LEN, reading, PIM_READING_LEN) == 0, "read bare");
+    expect(facts_are(8 * (written - 8), 0), "the same bits");
     memcpy(old_bytes, bytes, sizeof bytes);
     expect(pim_write_bare(two_blocks, PIM_RECORD_LEN, bytes, sizeof bytes, &written) == 0, "write bare");
     expect(memcmp(bytes, old_bytes + 8, written) == 0, "the same data bare");
 
     memset(record, 0x5A, sizeof record);
     memcpy(old_record, record, sizeof record);
-    bits = 7;
-    expect(pim_read_bare(bytes, written - 1, record, PIM_RECORD_LEN, &bits) == 1, "a byte is missing");
-    expect(pim_read_bare(bytes, written, record, PIM_RECORD_LEN - 1, &bits) == 13, "a record of 145 numbers");
-    expect(memcmp(record, old_record, sizeof record) == 0 && bits == 7, "a refused reading leaves all as it was");
+    fill_facts();
+    expect(pim_read_bare(bytes, written - 1, record, PIM_RECORD_LEN, reading, PIM_READING_LEN) == 1, "a byte is missing");
+    expect(facts_are(0, 0), "the facts of a refused reading are zeros");
+    expect(memcmp(record, old_record, sizeof record) == 0, "and the record stays as it was");
+}
+
+typedef uint32_t reader(const uint8_t *in, size_t n, int32_t *record, size_t record_len, uint32_t *reading, size_t reading_len);
+
+/* Lengths that are wrong get 13, before the input is looked at. The facts are zeros if they have their length. */
+static void wrong_lengths(reader *read, const uint8_t *in, size_t n)
+{
+    memset(record, 0x5A, sizeof record);
+    memcpy(old_record, record, sizeof record);
+    fill_facts();
+    expect(read(in, n, record, PIM_RECORD_LEN - 1, reading, PIM_READING_LEN) == PIM_SHORT && facts_are(0, 0), "145 numbers of a record");
+    fill_facts();
+    expect(read(in, n, record, 0, reading, PIM_READING_LEN) == PIM_SHORT && facts_are(0, 0), "no numbers of a record");
+    fill_facts();
+    expect(read(in, n, record, PIM_RECORD_LEN, reading, PIM_READING_LEN - 1) == PIM_SHORT && facts_are(7, 7), "a fact too few");
+    expect(read(in, n, record, PIM_RECORD_LEN, reading, PIM_READING_LEN + 1) == PIM_SHORT && facts_are(7, 7), "a fact too many");
+    expect(read(in, n, record, PIM_RECORD_LEN, reading, 0) == PIM_SHORT && facts_are(7, 7), "no facts");
+    expect(read(in, n, record, PIM_RECORD_LEN - 1, reading, PIM_READING_LEN - 1) == PIM_SHORT && facts_are(7, 7), "both wrong");
+    expect(memcmp(record, old_record, sizeof record) == 0, "a wrong length leaves the record as it was");
+}
+
+/* Read a bare payload, the same wrapped, and the same in a unit that needs no 03: the result, the bits read, the blocks passed over. */
+static void reads(const uint8_t *data, size_t n, const int32_t *expected, uint32_t result, uint32_t bits, uint32_t skipped, const char *what)
+{
+    static const uint8_t before[] = {0x4E, 0x01, 0x04, 0x00, 0xB5, 0x00, 0x31, 0x47, 0x41, 0x39, 0x34, 0x09};
+    memcpy(bytes, before, sizeof before);
+    bytes[3] = 8 + n;
+    memcpy(bytes + sizeof before, data, n);
+    bytes[sizeof before + n] = 0x80;
+    for (int i = 0; i < 3; i++) {
+        memset(record, 0x5A, sizeof record);
+        memcpy(old_record, record, sizeof record);
+        fill_facts();
+        uint32_t answer = i == 0   ? pim_read_bare(data, n, record, PIM_RECORD_LEN, reading, PIM_READING_LEN)
+                          : i == 1 ? pim_read_wrapped(bytes + 4, 8 + n, record, PIM_RECORD_LEN, reading, PIM_READING_LEN)
+                                   : pim_read_unit(bytes, sizeof before + n + 1, record, PIM_RECORD_LEN, reading, PIM_READING_LEN);
+        expect(answer == result && facts_are(bits, skipped), what);
+        expect(memcmp(record, result == 0 ? expected : old_record, sizeof record) == 0, what);
+    }
+}
+
+/* 5A 81 80, and a level 1 block between two of the levels 0 and 255, which have a byte of ones and no byte. */
+static const int32_t no_blocks[PIM_RECORD_LEN] = {1};
+static const int32_t one_block[PIM_RECORD_LEN] = {1, 1, 1, 0, 3072, 1024};
+static const uint8_t skipped_one[] = {0x5A, 0x81, 0x80};
+static const uint8_t skipped_two[] = {0x59, 0x00, 0x40, 0x1F, 0xE6, 0x01, 0x00, 0x0C, 0x00, 0x40, 0x00, 0xFF, 0x80};
+static const uint8_t without_them[] = {0x5A, 0x30, 0x08, 0x00, 0x60, 0x02, 0x00, 0x00};
+
+static void reserved_blocks(void)
+{
+    uint32_t written = 7;
+    reads(skipped_one, sizeof skipped_one, no_blocks, PIM_DONE, 24, 1, "a reserved block alone");
+    reads(skipped_two, sizeof skipped_two, one_block, PIM_DONE, 104, 2, "reserved blocks around a known one");
+    reads(without_them, sizeof without_them, one_block, PIM_DONE, 64, 0, "the known one alone has the same record");
+    reads(skipped_one, sizeof skipped_one - 1, NULL, PIM_PAST_END, 0, 0, "a level without its last bit");
+    reads(skipped_two, 4, NULL, PIM_PAST_END, 0, 0, "a content that is cut short");
+    reads((const uint8_t[]){0x58, 0x50}, 2, NULL, PIM_PAST_END, 0, 0, "19 blocks announced, and none there");
+    reads((const uint8_t[]){0x58, 0x0F, 0xF0}, 3, NULL, PIM_PAST_END, 0, 0, "254 announced");
+    reads((const uint8_t[]){0x58, 0x04, 0x00}, 3, NULL, PIM_MANY_BLOCKS, 0, 0, "255 announced");
+    reads((const uint8_t[]){0x5A, 0x00, 0x20, 0x08, 0x18}, 5, NULL, PIM_LENGTH, 0, 0, "a length of 1,024, before the content");
+    reads((const uint8_t[]){0x5A, 0x00, 0x20, 0x00, 0x18}, 5, NULL, PIM_PAST_END, 0, 0, "a length of 1,023, and no content");
+    expect(pim_read_bare(skipped_two, sizeof skipped_two, record, PIM_RECORD_LEN, reading, PIM_READING_LEN) == 0, "read, to be written");
+    expect(pim_write_bare(record, PIM_RECORD_LEN, bytes, sizeof bytes, &written) == 0, "what is written of it");
+    expect(written == sizeof without_them && memcmp(bytes, without_them, written) == 0, "has no reserved blocks");
+}
+
+/* 254 blocks of 1,023 bytes, all of level 3: a code of ten zeros, a one and ten zeros, the level, and a content of ones. */
+static uint8_t longest[PIM_LONGEST_BARE + 1];
+
+static void longest_payload(void)
+{
+    size_t at = 24;
+    memset(longest, 0xFF, sizeof longest);
+    longest[0] = 0x58;
+    longest[1] = 0x0F;
+    longest[2] = 0xF0;
+    for (int block = 0; block < 254; block++, at += 8 * 1023)
+        for (int i = 0; i < 29; i++, at++)
+            if (i != 10 && i != 27 && i != 28)
+                longest[at / 8] &= ~(0x80 >> at % 8);
+    for (; at % 8 != 0; at++)
+        longest[at / 8] &= ~(0x80 >> at % 8);
+    expect(at == 8 * (size_t)PIM_LONGEST_BARE, "the bits of the longest payload");
+    fill_facts();
+    expect(pim_read_bare(longest, PIM_LONGEST_BARE, record, PIM_RECORD_LEN, reading, PIM_READING_LEN) == 0, "the longest payload");
+    expect(facts_are(2086128, 254) && memcmp(record, no_blocks, sizeof record) == 0, "its facts and its record");
+    expect(pim_read_bare(longest, PIM_LONGEST_BARE - 1, record, PIM_RECORD_LEN, reading, PIM_READING_LEN) == PIM_PAST_END, "a byte less");
+    expect(facts_are(0, 0), "zeros again");
+    expect(pim_read_bare(longest, PIM_LONGEST_BARE + 1, record, PIM_RECORD_LEN, reading, PIM_READING_LEN) == PIM_BYTES_REMAIN, "a byte more");
+    expect(PIM_LONGEST_WRAPPED == 8 + PIM_LONGEST_BARE, "the longest wrapped payload");
 }
 
 /* The unit of two_blocks: header, type, size, wrapper and the payload, in which no 03 is needed; and the end. */
@@ -58,16 +167,17 @@ static const uint8_t escaped[] = {0x4E, 0x01, 0x04, 0x10, 0xB5, 0x00, 0x31, 0x47
 
 static void units(void)
 {
-    uint32_t written = 7, bits = 7;
+    uint32_t written = 7;
+    fill_facts();
     memset(bytes, 0xEE, sizeof bytes);
     expect(pim_write_unit(two_blocks, PIM_RECORD_LEN, bytes, PIM_UNIT_BYTES, &written) == 0, "write a unit");
     expect(written == sizeof unit && memcmp(bytes, unit, sizeof unit) == 0, "the unit");
     expect(bytes[written] == 0xEE, "later bytes stay");
-    expect(pim_read_unit(bytes, written, record, PIM_RECORD_LEN, &bits) == 0, "read a unit");
-    expect(memcmp(record, two_blocks, sizeof record) == 0 && bits == 8 * sizeof payload, "what was written is read");
+    expect(pim_read_unit(bytes, written, record, PIM_RECORD_LEN, reading, PIM_READING_LEN) == 0, "read a unit");
+    expect(memcmp(record, two_blocks, sizeof record) == 0 && facts_are(8 * sizeof payload, 0), "what was written is read");
     expect(pim_write_unit(three_zeros, PIM_RECORD_LEN, bytes, sizeof escaped, &written) == 0, "room for exactly the unit");
     expect(written == sizeof escaped && memcmp(bytes, escaped, sizeof escaped) == 0, "emulation prevention");
-    expect(pim_read_unit(bytes, written, record, PIM_RECORD_LEN, &bits) == 0 && bits == 64, "and what it hides");
+    expect(pim_read_unit(bytes, written, record, PIM_RECORD_LEN, reading, PIM_READING_LEN) == 0 && facts_are(64, 0), "and what it hides");
     expect(memcmp(record, three_zeros, sizeof record) == 0, "its record");
 
     /* As many blocks as a record holds, as many zeros as they have: level 1, sixteen of level 2 and level 5. */
@@ -81,8 +191,8 @@ static void units(void)
     memcpy(old_record, record, sizeof record);
     expect(pim_write_unit(record, PIM_RECORD_LEN, bytes, PIM_UNIT_BYTES, &written) == 0, "354 bytes suffice");
     expect(written > PIM_WRAPPED_BYTES + 5 && written <= PIM_UNIT_BYTES && bytes[written] == 0xEE, "a long unit");
-    expect(pim_read_unit(bytes, written, record, PIM_RECORD_LEN, &bits) == 0 && bits == 8 * PIM_BARE_BYTES, "which is read");
-    expect(memcmp(record, old_record, sizeof record) == 0, "to the same record");
+    expect(pim_read_unit(bytes, written, record, PIM_RECORD_LEN, reading, PIM_READING_LEN) == 0, "which is read");
+    expect(memcmp(record, old_record, sizeof record) == 0 && facts_are(8 * PIM_BARE_BYTES, 0), "to the same record");
 
     memcpy(old_bytes, bytes, sizeof bytes);
     memcpy(record, three_zeros, sizeof record);
@@ -97,23 +207,25 @@ static void units(void)
 /* The unit with one byte changed, and cut to n bytes. */
 static void refused_unit(size_t place, uint8_t byte, size_t n, uint32_t refusal, const char *what)
 {
-    uint32_t bits = 7;
+    fill_facts();
     memcpy(bytes, unit, sizeof unit);
     bytes[place] = byte;
     memset(record, 0x5A, sizeof record);
     memcpy(old_record, record, sizeof record);
     memcpy(old_bytes, bytes, sizeof bytes);
-    expect(pim_read_unit(bytes, n, record, PIM_RECORD_LEN, &bits) == refusal, what);
-    expect(pim_read_unit(bytes, n, record, PIM_RECORD_LEN + 1, &bits) == PIM_SHORT, "147 numbers, before everything");
-    expect(memcmp(record, old_record, sizeof record) == 0 && bits == 7, "a refused reading of a unit leaves all as it was");
+    expect(pim_read_unit(bytes, n, record, PIM_RECORD_LEN, reading, PIM_READING_LEN) == refusal && facts_are(0, 0), what);
+    fill_facts();
+    expect(pim_read_unit(bytes, n, record, PIM_RECORD_LEN + 1, reading, PIM_READING_LEN) == PIM_SHORT, "147 numbers, before everything");
+    expect(facts_are(0, 0), "the facts of a refused reading of a unit are zeros");
+    expect(memcmp(record, old_record, sizeof record) == 0, "and the record stays as it was");
     expect(memcmp(bytes, old_bytes, sizeof bytes) == 0, "and what is read is not written");
 }
 
 /* The message behind as many empty ones of type 1 as n bytes have room for; the last of them takes what is left over. */
 static void longest_unit(size_t n, uint32_t result)
 {
-    uint32_t bits = 7;
     size_t at = 2, left = sizeof unit - 2;
+    fill_facts();
     bytes[0] = unit[0];
     bytes[1] = unit[1];
     while (at + left + 2 < n) {
@@ -126,8 +238,8 @@ static void longest_unit(size_t n, uint32_t result)
         at = n - left;
     }
     memcpy(bytes + at, unit + 2, left);
-    expect(pim_read_unit(bytes, n, record, PIM_RECORD_LEN, &bits) == result, "a unit of the most bytes, or above");
-    expect(result != 0 || (bits == 8 * sizeof payload && memcmp(record, two_blocks, sizeof record) == 0), "its last message");
+    expect(pim_read_unit(bytes, n, record, PIM_RECORD_LEN, reading, PIM_READING_LEN) == result, "a unit of the most bytes, or above");
+    expect(result != 0 || (facts_are(8 * sizeof payload, 0) && memcmp(record, two_blocks, sizeof record) == 0), "its last message");
 }
 
 /* The row differs from two_blocks at one place: it names no record, or one that is not valid. */
@@ -190,6 +302,12 @@ static void tracks(void)
 int main(void)
 {
     reading_and_writing();
+    wrong_lengths(pim_read_bare, payload, sizeof payload);
+    wrong_lengths(pim_read_bare, payload, 1);
+    wrong_lengths(pim_read_wrapped, payload, sizeof payload);
+    wrong_lengths(pim_read_unit, unit, sizeof unit);
+    reserved_blocks();
+    longest_payload();
     refused(0, 2, "a refresh flag of 2");
     refused(1, 256, "a count that is no uint8_t");
     refused(1, 1, "a count that is not the blocks'");

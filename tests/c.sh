@@ -35,4 +35,14 @@ payload="B5 00 31 47 41 39 34 09 5A 18 05 00 1F FE 00 00 02 80 18 01 FF F0"
 trims="target=0.5 slope=0.999755859 offset=0 power=0.000244140625 chroma=0.25 saturation=0.75 ms=-0.000244140625"
 same "$("${run[@]}" "$out/trims" $payload)" "$trims" "examples/trims.c with arguments"
 same "$(printf '%b' "$(printf '\\x%s' $payload)" | "${run[@]}" "$out/trims")" "$trims" "examples/trims.c on standard input"
+# Three reserved blocks among three known ones, and the same trims behind more bytes than a payload without reserved blocks has: a
+# reserved block of 1,022 bytes of zeros (19 bits of its length, 8 of its level, which is 3), then the level 2 block.
+among="target=0.508056641 slope=0.524902344 offset=0.483398438 power=0.502929688 chroma=0.498046875 saturation=0.513916016 ms=-0.000244140625"
+same "$("${run[@]}" "$out/trims" < samples/among-reserved.t35)" "$among" "examples/trims.c with reserved blocks"
+long() {
+    printf '%b' "$(printf '\\x%s' B5 00 31 47 41 39 34 09 5B 00 7F E0 60)"
+    head -c 1021 /dev/zero
+    printf '%b' "$(printf '\\x%s' 03 00 A0 03 FF C0 00 00 50 03 00 3F FE 00)"
+}
+same "$(long | "${run[@]}" "$out/trims")" "$trims" "examples/trims.c with a long reserved block"
 same "$("${run[@]}" "$out/trims" B5 00 3C || true)" "refused: 3" "examples/trims.c with another wrapper"

@@ -41,7 +41,7 @@ for crate, label in named:
 
 # ---- statements: `crate/File: name`, `crate/specs/File: name`, `crate/specs: name`, `crate: function`, a name alone, or a file
 texts = {path: open(path).read() for path in glob.glob('crates/*/**/*.antt', recursive=True) + glob.glob('crates/*/src/*.rt')}
-others = {'requires', 'result', 'buffer', 'table', 'io::read_full'}  # words of Rattle, clauses, a function of the kit
+others = {'requires', 'result', 'buffer', 'table', 'facts', 'io::read_full'}  # words of Rattle, clauses, a function of the kit
 
 def stands(name, paths):
     defined = re.compile(r'^\s*(?:(?:pub|abbrev|unfoldable|record|data) )*' + re.escape(name) + r'(?: \(.*\))* :'

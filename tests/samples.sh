@@ -129,13 +129,46 @@ reads_at_most() { # LIMIT HOW PROGRAM LISTING FILE
     [ "$left" -eq "$expected" ] || differs "of $size bytes $3 left $left unread, and not $expected"
 }
 
-# Behind a payload of 232 bytes at most there is nothing that could change the answer, so that the limit is kept shows in what is
-# left of the input.
+# The limit shows in what is left of the input, and in the answer to a payload that is longer.
 echo result=12 >"$room/listing"
 for size in 4096 5000; do
     cp samples/one-block.t35 "$room/long"
     truncate -s "$size" "$room/long"
     reads_at_most 4096 'one-block.t35 and zero bytes' show "$room/listing" "$room/long"
+done
+
+# The bytes of a row of bits.
+bytes_of() { # BITS
+    local bits=$1
+    while [ -n "$bits" ]; do
+        # shellcheck disable=SC2059 # a byte that is given by its number has to stand in the format
+        printf "\\x$(printf %02x $((2#${bits:0:8})))"
+        bits=${bits:8}
+    done
+}
+
+# A payload of 24 reserved blocks that has this many bytes, the wrapper with them: four times five empty blocks, of nine bits each, and
+# a block of 511 to 1,022 bytes of zeros, of 27 bits and those. So every long block's content begins and ends on a byte boundary.
+long_payload() { # SIZE
+    local empty=100000011 left=$(($1 - 8 - 2 - 4 * 9)) length low
+    head -c 8 samples/one-block.t35
+    bytes_of 0101100001100100
+    for length in 1022 1022 1022 $((left - 3 * 1022)); do
+        low=''
+        for place in 8 7 6 5 4 3 2 1 0; do low=$low$(((length - 511) >> place & 1)); done
+        bytes_of "$empty$empty$empty$empty${empty}0000000001${low}00000011"
+        head -c "$length" /dev/zero
+    done
+}
+for size in 4095 4096 4097; do
+    long_payload "$size" >"$room/long"
+    [ "$(wc -c <"$room/long")" -eq "$size" ] || stop "a payload of $size bytes was not made"
+    if [ "$size" -le 4096 ]; then
+        printf 'result=0\nrefresh=1\nbits=%s\nblocks=0\n' $((8 * (size - 8))) >"$room/listing"
+    else
+        echo result=1 >"$room/listing"
+    fi
+    reads_at_most 4096 'reserved blocks' show "$room/listing" "$room/long"
 done
 
 # one-message.unit with a message of type 5 before its own, so long that the unit has this many bytes: two header bytes, the type, a

@@ -7,7 +7,7 @@
 
 use crate::compare::Track;
 use crate::made::Rng;
-use crate::own;
+use crate::own::{self, BITS, READING, SKIPPED};
 use crate::proved;
 use crate::reader::WRAPPER;
 use crate::record::{block_to_flat, flat, Block, Record, BARE_BYTES, EMPTY, FLAT, WRAPPED_BYTES};
@@ -17,7 +17,7 @@ use crate::units::{message, ours, plan, UNIT_BYTES};
 use std::mem::MaybeUninit;
 
 /// The operations of `bench`.
-pub const OPERATIONS: [&str; 11] = [
+pub const OPERATIONS: [&str; 16] = [
     "read8",
     "read44",
     "read224",
@@ -29,6 +29,11 @@ pub const OPERATIONS: [&str; 11] = [
     "unit4096",
     "unitsmall",
     "writeunit",
+    "skip0",
+    "skip511",
+    "skip1022",
+    "skip1023",
+    "skiptwo",
 ];
 
 /// The operations of `stack`.
@@ -47,7 +52,7 @@ pub const STACK_OPERATIONS: [&str; 11] = [
 ];
 
 // The functions of both implementations.
-type Read = fn(&[u8], &mut [i32], &mut u32) -> u32;
+type Read = fn(&[u8], &mut [i32], &mut [u32]) -> u32;
 type Write = fn(&[i32], &mut [u8], &mut u32) -> u32;
 type Shader = fn(&[i32], &mut [u32]) -> u32;
 type Place = fn(&[i32], i32, &mut [i32], &mut u32) -> u32;
@@ -127,6 +132,33 @@ fn payload(bytes: usize) -> (Vec<u8>, [i32; FLAT]) {
     assert_eq!((answer, written as usize), (0, bytes));
     payload.truncate(bytes);
     (payload, numbers)
+}
+
+/// A payload with one or two reserved blocks, of level 3, whose content is so many
+/// bytes of ones. It is put together by hand, because the preparation of an
+/// operation is counted instruction by instruction.
+fn reserved(count: usize, length: usize) -> Vec<u8> {
+    let mut zeros = 0;
+    while length + 1 >= 2 << zeros {
+        zeros += 1;
+    }
+    // The length's code is zeros and then length + 1; the level follows.
+    let width = 2 * zeros + 1 + 8;
+    let head = (length + 1) << 8 | 3;
+    let bits = 8 + count * (width + 8 * length);
+    let mut payload = vec![0xFF; (bits + 7) / 8];
+    payload[0] = if count == 1 { 0x5A } else { 0x5B };
+    for block in 0..count {
+        let start = 8 + block * (width + 8 * length);
+        for i in start..start + width {
+            if (head >> (start + width - 1 - i)) & 1 == 0 {
+                payload[i / 8] &= !(0x80 >> (i % 8));
+            }
+        }
+    }
+    let last = payload.len() - 1;
+    payload[last] &= 0xFF << (8 * payload.len() - bits);
+    payload
 }
 
 /// A unit of 4,096 bytes with as many messages as it can hold: each but the last
@@ -217,18 +249,23 @@ fn mix(sum: u64, number: u64) -> u64 {
 pub fn bench(operation: &str, own_one: bool, n: u64) -> Option<u64> {
     let mut sum = 0;
     match operation {
-        "read8" | "read44" | "read224" => {
+        "read8" | "read44" | "read224" | "skip0" | "skip511" | "skip1022" | "skip1023" | "skiptwo" => {
             let read: Read = hidden(if own_one {
                 own::read_bare
             } else {
                 proved::read_bare
             });
-            let (payload, _) = payload(bytes_of(operation));
+            let payload = match operation {
+                "read8" | "read44" | "read224" => payload(bytes_of(operation)).0,
+                "skiptwo" => reserved(2, 1023),
+                _ => reserved(1, bytes_of(operation)),
+            };
             let mut record = [0; FLAT];
-            let mut bits = 0;
+            let mut facts = [0; READING];
             for _ in 0..n {
-                let number = read(&payload, &mut record, &mut bits);
-                sum = mix(sum, (number + bits) as u64 + record[5] as u64);
+                let number = read(&payload, &mut record, &mut facts);
+                let all = number + facts[BITS] + facts[SKIPPED];
+                sum = mix(sum, all as u64 + record[5] as u64);
             }
         }
         "write8" | "write44" | "write224" => {
@@ -257,10 +294,11 @@ pub fn bench(operation: &str, own_one: bool, n: u64) -> Option<u64> {
                 small_messages()
             };
             let mut record = [0; FLAT];
-            let mut bits = 0;
+            let mut facts = [0; READING];
             for _ in 0..n {
-                let number = read(&unit, &mut record, &mut bits);
-                sum = mix(sum, (number + bits) as u64 + record[5] as u64);
+                let number = read(&unit, &mut record, &mut facts);
+                let all = number + facts[BITS] + facts[SKIPPED];
+                sum = mix(sum, all as u64 + record[5] as u64);
             }
         }
         "writeunit" => {
@@ -402,7 +440,7 @@ pub fn stack(operation: &str, own_one: bool) -> Option<usize> {
             used(
                 function,
                 |_, _, _| 0,
-                |read| number |= read(&payload, &mut record, &mut 0),
+                |read| number |= read(&payload, &mut record, &mut [0; READING]),
             )
         }
         "read232" => {
@@ -417,7 +455,7 @@ pub fn stack(operation: &str, own_one: bool) -> Option<usize> {
             used(
                 function,
                 |_, _, _| 0,
-                |read| number |= read(&input, &mut record, &mut 0),
+                |read| number |= read(&input, &mut record, &mut [0; READING]),
             )
         }
         "write232" => {
@@ -459,7 +497,7 @@ pub fn stack(operation: &str, own_one: bool) -> Option<usize> {
             used(
                 function,
                 |_, _, _| 0,
-                |read| number |= read(&unit, &mut record, &mut 0),
+                |read| number |= read(&unit, &mut record, &mut [0; READING]),
             )
         }
         "writeunit" => {

@@ -9,9 +9,9 @@
 //! alone must be left alone by the other.
 
 use crate::made::{point_record, Rng};
-use crate::own;
+use crate::own::{self, BITS, READING, SKIPPED};
 use crate::proved;
-use crate::record::{flat, FLAT};
+use crate::record::{flat, FLAT, WRAPPED_BYTES};
 use crate::track::{point_from_flat, FLAT_POINT, FLAT_TABLE};
 use crate::writer;
 
@@ -32,22 +32,23 @@ pub enum Function {
 
 /// The functions with their names and the answers that can occur: 0, the
 /// refusals that 01 and 02 give them, and 13 for an argument of a wrong length.
-/// A unit's message begins with the eight wrapper bytes, so it never gets 3.
+/// A unit's message begins with the eight wrapper bytes, so it never gets 3. 8 was
+/// for reserved levels, which are passed over since 02's request b.
 pub const FUNCTIONS: [(Function, &str, &[u32]); 10] = [
     (
         Function::ReadBare,
         "read_bare",
-        &[0, 1, 2, 4, 5, 6, 7, 8, 9, 10, 11, 12, 13],
+        &[0, 1, 2, 4, 5, 6, 7, 9, 10, 11, 12, 13],
     ),
     (
         Function::ReadWrapped,
         "read_wrapped",
-        &[0, 1, 2, 3, 4, 5, 6, 7, 8, 9, 10, 11, 12, 13],
+        &[0, 1, 2, 3, 4, 5, 6, 7, 9, 10, 11, 12, 13],
     ),
     (
         Function::ReadUnit,
         "read_unit",
-        &[0, 1, 2, 4, 5, 6, 7, 8, 9, 10, 11, 12, 13, 30, 31, 32, 33],
+        &[0, 1, 2, 4, 5, 6, 7, 9, 10, 11, 12, 13, 30, 31, 32, 33],
     ),
     (Function::WriteBare, "write_bare", &[0, 13, 14]),
     (Function::WriteWrapped, "write_wrapped", &[0, 13, 14]),
@@ -142,6 +143,8 @@ impl Track {
 const AROUND: usize = 4;
 /// Room for the longest flat record that is lent.
 const RECORD_ROOM: usize = 2 * FLAT + 2 * AROUND;
+/// Room for the most facts of a reading that are lent.
+const READING_ROOM: usize = 2 * READING + 2 * AROUND;
 /// Room for the longest output that is lent.
 const OUTPUT: usize = 512;
 const OUTPUT_ROOM: usize = OUTPUT + 2 * AROUND;
@@ -163,12 +166,17 @@ pub struct Compare {
     /// to the same record, and from a unit by the one that is written of its
     /// record to the same record.
     round_trips: [u64; 3],
+    /// Readings with reserved blocks whose record, written, was read back to the
+    /// same record with none skipped: payloads, and units.
+    rewritten: [u64; 2],
     /// The part of the run and the case in it, for a failure's report.
     part: String,
     case: u64,
     pattern: u32,
     own_record: [i32; RECORD_ROOM],
     proved_record: [i32; RECORD_ROOM],
+    own_reading: [u32; READING_ROOM],
+    proved_reading: [u32; READING_ROOM],
     own_output: [u8; OUTPUT_ROOM],
     proved_output: [u8; OUTPUT_ROOM],
     own_single: [u32; SINGLE_ROOM],
@@ -186,12 +194,27 @@ pub struct Compare {
     proved_table: Vec<i32>,
 }
 
+/// The most bytes of an input that a report prints. A longer one, of long
+/// reserved blocks, can be made again from its part and its call.
+const PRINTED: usize = 5_000;
+
 fn hex(bytes: &[u8]) -> String {
     let mut text = String::new();
-    for byte in bytes {
+    for byte in bytes.iter().take(PRINTED) {
         text.push_str(&format!("{:02X} ", byte));
     }
+    if bytes.len() > PRINTED {
+        text.push_str(&format!("and {} more", bytes.len() - PRINTED));
+    }
     text.trim_end().to_string()
+}
+
+fn read_function(wrapped: bool) -> Function {
+    if wrapped {
+        Function::ReadWrapped
+    } else {
+        Function::ReadBare
+    }
 }
 
 /// Numbers as they are and as hex words, without the zeros at the end.
@@ -274,11 +297,14 @@ impl Compare {
             found: [0; 2],
             placed: [0; 2],
             round_trips: [0; 3],
+            rewritten: [0; 2],
             part: String::new(),
             case: 0,
             pattern: 1,
             own_record: [0; RECORD_ROOM],
             proved_record: [0; RECORD_ROOM],
+            own_reading: [0; READING_ROOM],
+            proved_reading: [0; READING_ROOM],
             own_output: [0; OUTPUT_ROOM],
             proved_output: [0; OUTPUT_ROOM],
             own_single: [0; SINGLE_ROOM],
@@ -331,6 +357,15 @@ impl Compare {
         self.proved_record = self.own_record;
     }
 
+    fn fill_readings(&mut self) {
+        let mut value = self.pattern ^ 0x0FAC_7500;
+        for number in self.own_reading.iter_mut() {
+            value = value.wrapping_add(0x9E37_79B9);
+            *number = value;
+        }
+        self.proved_reading = self.own_reading;
+    }
+
     fn fill_outputs(&mut self, n: usize) {
         let mut value = self.pattern;
         for byte in self.own_output[..n + 2 * AROUND].iter_mut() {
@@ -355,99 +390,151 @@ impl Compare {
 
     // ------------------------------------------------------------- reading
 
-    /// Reads, and writes what was read back to the same bytes.
+    /// Reads, and writes what was read: back to the same bytes where nothing was
+    /// skipped, "otherwise the rewritten payload reads to the same record with none
+    /// skipped" (02, b). The lent facts and record are those of the input again.
     pub fn read(&mut self, wrapped: bool, input: &[u8]) -> u32 {
-        let number = self.read_lent(wrapped, input, FLAT);
+        let number = self.read_lent(wrapped, input, FLAT, READING);
         if number == 0 {
             let mut record = [0; FLAT];
-            record.copy_from_slice(&self.own_record[AROUND..AROUND + FLAT]);
-            let answer = self.write_lent(wrapped, &record, input.len());
-            if answer != 0 || self.own_output[AROUND..AROUND + input.len()] != *input {
-                self.fail(
-                    "what was read is not written back to the same bytes",
-                    &format!("input: {}", hex(input)),
-                    &format!("written: result {}", answer),
-                );
+            record.copy_from_slice(self.record());
+            let (bits, skipped) = (self.bits(), self.skipped());
+            if skipped == 0 {
+                let answer = self.write_lent(wrapped, &record, input.len());
+                if answer != 0 || self.own_output[AROUND..AROUND + input.len()] != *input {
+                    self.fail(
+                        "what was read is not written back to the same bytes",
+                        &format!("input: {}", hex(input)),
+                        &format!("written: result {}", answer),
+                    );
+                }
+                self.round_trips[0] += 1;
+            } else {
+                // A reserved block has nine bits at least, so that the payload
+                // without it is shorter.
+                let answer = self.write_lent(wrapped, &record, WRAPPED_BYTES);
+                let written = self.single() as usize;
+                if answer != 0 || written >= input.len() {
+                    self.fail(
+                        "what was read is not written to a shorter payload",
+                        &format!("input: {}", hex(input)),
+                        &format!("written: result {}, {} bytes", answer, written),
+                    );
+                }
+                self.read_back(read_function(wrapped), &record, answer);
+                self.rewritten[0] += 1;
+                self.own_record[AROUND..AROUND + FLAT].copy_from_slice(&record);
+                self.own_reading[AROUND + BITS] = bits;
+                self.own_reading[AROUND + SKIPPED] = skipped;
             }
-            self.round_trips[0] += 1;
         }
         number
     }
 
-    /// Reads into a record of any length.
-    pub fn read_lent(&mut self, wrapped: bool, input: &[u8], record_len: usize) -> u32 {
-        let function = if wrapped {
-            Function::ReadWrapped
-        } else {
-            Function::ReadBare
-        };
-        self.read_by(function, input, record_len)
+    /// Reads into a record and into facts of any length.
+    pub fn read_lent(
+        &mut self,
+        wrapped: bool,
+        input: &[u8],
+        record_len: usize,
+        reading_len: usize,
+    ) -> u32 {
+        self.read_by(read_function(wrapped), input, record_len, reading_len)
     }
 
     /// Reads a unit. What was read is written as a unit, which is read back to
-    /// the same record.
+    /// the same record, with none skipped. The lent facts and record are those of
+    /// the input again.
     pub fn read_unit(&mut self, unit: &[u8]) -> u32 {
-        let number = self.read_unit_lent(unit, FLAT);
+        let number = self.read_unit_lent(unit, FLAT, READING);
         if number == 0 {
-            let bits = self.single();
+            let (bits, skipped) = (self.bits(), self.skipped());
             let mut record = [0; FLAT];
             record.copy_from_slice(self.record());
             let answer = self.write_unit(&record, OUTPUT);
-            if answer != 0 || self.single() != bits {
+            // What is left out has nine bits at least.
+            let same_data = self.bits() == bits;
+            let less_data = self.bits() + 8 <= bits;
+            if answer != 0 || !(if skipped == 0 { same_data } else { less_data }) {
                 self.fail(
                     "what was read is not written to a unit of the same data",
                     &format!("unit: {}", hex(unit)),
                     &format!("written: result {}", answer),
                 );
             }
-            self.round_trips[2] += 1;
+            if skipped == 0 {
+                self.round_trips[2] += 1;
+            } else {
+                self.rewritten[1] += 1;
+                self.own_reading[AROUND + BITS] = bits;
+                self.own_reading[AROUND + SKIPPED] = skipped;
+            }
         }
         number
     }
 
-    /// Reads a unit into a record of any length.
-    pub fn read_unit_lent(&mut self, unit: &[u8], record_len: usize) -> u32 {
-        self.read_by(Function::ReadUnit, unit, record_len)
+    /// Reads a unit into a record and into facts of any length.
+    pub fn read_unit_lent(&mut self, unit: &[u8], record_len: usize, reading_len: usize) -> u32 {
+        self.read_by(Function::ReadUnit, unit, record_len, reading_len)
     }
 
-    fn read_by(&mut self, function: Function, input: &[u8], record_len: usize) -> u32 {
+    fn read_by(
+        &mut self,
+        function: Function,
+        input: &[u8],
+        record_len: usize,
+        reading_len: usize,
+    ) -> u32 {
         self.next_case();
         self.fill_records();
+        self.fill_readings();
+        let facts_before = self.own_reading;
         self.lent_bytes.clear();
         self.lent_bytes.extend_from_slice(input);
         let lent = AROUND..AROUND + record_len;
+        let lent_facts = AROUND..AROUND + reading_len;
         let own_record = &mut self.own_record[lent.clone()];
-        let own_single = &mut self.own_single[1];
+        let own_facts = &mut self.own_reading[lent_facts.clone()];
         let proved_record = &mut self.proved_record[lent];
-        let proved_single = &mut self.proved_single[1];
+        let proved_facts = &mut self.proved_reading[lent_facts.clone()];
         let (own_number, proved_number) = match function {
             Function::ReadUnit => (
-                own::read_unit(input, own_record, own_single),
-                proved::read_unit(&self.lent_bytes, proved_record, proved_single),
+                own::read_unit(input, own_record, own_facts),
+                proved::read_unit(&self.lent_bytes, proved_record, proved_facts),
             ),
             Function::ReadWrapped => (
-                own::read_wrapped(input, own_record, own_single),
-                proved::read_wrapped(&self.lent_bytes, proved_record, proved_single),
+                own::read_wrapped(input, own_record, own_facts),
+                proved::read_wrapped(&self.lent_bytes, proved_record, proved_facts),
             ),
             _ => (
-                own::read_bare(input, own_record, own_single),
-                proved::read_bare(&self.lent_bytes, proved_record, proved_single),
+                own::read_bare(input, own_record, own_facts),
+                proved::read_bare(&self.lent_bytes, proved_record, proved_facts),
             ),
         };
+        // What the facts of a refused reading must be, without asking either
+        // implementation: zeros, or all as it was where they have not their length.
+        let mut facts_after = facts_before;
+        if reading_len == READING {
+            facts_after[lent_facts].fill(0);
+        }
         if own_number != proved_number
             || self.own_record != self.proved_record
+            || self.own_reading != self.proved_reading
+            || (own_number != 0 && self.proved_reading != facts_after)
             || self.own_single != self.proved_single
             || self.lent_bytes != input
         {
             self.fail(
                 FUNCTIONS[function as usize].1,
                 &format!(
-                    "input ({} bytes): {}\nrecord lent with length {}",
+                    "input ({} bytes): {}\nrecord lent with length {}, facts with length {}",
                     input.len(),
                     hex(input),
-                    record_len
+                    record_len,
+                    reading_len
                 ),
                 &(self.answers(own_number, proved_number)
+                    + &self.facts(own_number, proved_number, &facts_after)
                     + &changed("the input", input, &self.lent_bytes)),
             );
         }
@@ -455,9 +542,49 @@ impl Compare {
         own_number
     }
 
+    /// What the facts of a reading hold, for a failure's report.
+    fn facts(&self, own_number: u32, proved_number: u32, refused: &[u32; READING_ROOM]) -> String {
+        let mut text = String::new();
+        for (name, number, facts) in [
+            ("own", own_number, &self.own_reading),
+            ("proved", proved_number, &self.proved_reading),
+        ] {
+            if number == 0 {
+                text.push_str(&format!(
+                    "  facts of {}: {} bits, {} skipped\n",
+                    name,
+                    facts[AROUND + BITS],
+                    facts[AROUND + SKIPPED]
+                ));
+            } else if facts != refused {
+                text.push_str(&format!(
+                    "  facts of {}: a refusal clears those that have their length, and no others\n",
+                    name
+                ));
+            }
+        }
+        text.push_str(&first_difference(
+            "facts",
+            AROUND,
+            &self.own_reading,
+            &self.proved_reading,
+        ));
+        text
+    }
+
     /// The flat record of the last reading or lookup that gave one.
     pub fn record(&self) -> &[i32] {
         &self.own_record[AROUND..AROUND + FLAT]
+    }
+
+    /// The bits read of the last reading.
+    pub fn bits(&self) -> u32 {
+        self.own_reading[AROUND + BITS]
+    }
+
+    /// The number of blocks that the last reading passed over.
+    pub fn skipped(&self) -> u32 {
+        self.own_reading[AROUND + SKIPPED]
     }
 
     /// The single number of the last call that gave one.
@@ -465,16 +592,15 @@ impl Compare {
         self.own_single[1]
     }
 
+    /// The answers of a reading or a lookup, which alone has a single number.
     fn answers(&self, own_number: u32, proved_number: u32) -> String {
         let mut text = format!("own:    result {}\n", own_number);
         if own_number == 0 {
-            text.push_str(&format!("    single number {}\n", self.own_single[1]));
             text.push_str(&format!("    record: {}\n", numbers(self.record())));
         }
         text.push_str(&format!("proved: result {}\n", proved_number));
         if proved_number == 0 {
             let record = &self.proved_record[AROUND..AROUND + FLAT];
-            text.push_str(&format!("    single number {}\n", self.proved_single[1]));
             text.push_str(&format!("    record: {}\n", numbers(record)));
         }
         text.push_str("first different element of each lent array, places counted from 0:\n");
@@ -504,12 +630,7 @@ impl Compare {
     /// Writes, and reads what was written back to the same record.
     pub fn write(&mut self, wrapped: bool, record: &[i32], out_len: usize) -> u32 {
         let number = self.write_lent(wrapped, record, out_len);
-        let read = if wrapped {
-            Function::ReadWrapped
-        } else {
-            Function::ReadBare
-        };
-        self.read_back(read, record, number);
+        self.read_back(read_function(wrapped), record, number);
         number
     }
 
@@ -520,21 +641,23 @@ impl Compare {
         number
     }
 
-    /// Reads what the last call wrote, if it did, back to the same record.
+    /// Reads what the last call wrote, if it did, back to the same record. No
+    /// reserved block is ever written.
     fn read_back(&mut self, read: Function, record: &[i32], number: u32) {
         if number == 0 {
             let written = self.single() as usize;
             let mut payload = [0; OUTPUT];
             payload[..written].copy_from_slice(&self.own_output[AROUND..AROUND + written]);
-            let answer = self.read_by(read, &payload[..written], FLAT);
-            if answer != 0 || self.record() != record {
+            let answer = self.read_by(read, &payload[..written], FLAT, READING);
+            if answer != 0 || self.record() != record || self.skipped() != 0 {
                 self.fail(
                     "what was written is not read back to the same record",
                     &format!("record: {}", numbers(record)),
                     &format!(
-                        "written: {}\nread: result {}",
+                        "written: {}\nread: result {}, {} skipped",
                         hex(&payload[..written]),
-                        answer
+                        answer,
+                        self.skipped()
                     ),
                 );
             }
@@ -966,7 +1089,16 @@ impl Compare {
             "  round trips: {} from bytes, {} from records, {} from units",
             self.round_trips[0], self.round_trips[1], self.round_trips[2]
         );
-        for count in [&self.found[..], &self.placed, &self.round_trips] {
+        println!(
+            "  rewritten without their reserved blocks: {} payloads, {} units",
+            self.rewritten[0], self.rewritten[1]
+        );
+        for count in [
+            &self.found[..],
+            &self.placed,
+            &self.round_trips,
+            &self.rewritten,
+        ] {
             if count.contains(&0) {
                 complete = false;
             }

@@ -1,17 +1,20 @@
-//! 01, "Payloads and their outcome", as 01 lists them, and units with the
-//! outcome that 02 gives them. Here both implementations are held against the
-//! papers, not only against each other.
+//! 01, "Payloads and their outcome", as 01 lists them where 02's request b does
+//! not change the outcome, payloads with reserved blocks by that request, and
+//! units with the outcome that 02 gives them. Here both implementations are held
+//! against the papers, not only against each other.
 
 use crate::compare::Compare;
 use crate::made::{blocks, holding, Rng};
+use crate::own::READING;
 use crate::record::{flat, BARE_BYTES, FLAT, LEVEL_2_BLOCKS, WRAPPED_BYTES};
 
 struct Listed {
     wrapped: bool,
     payload: &'static str,
     number: u32,
-    /// For an accepted payload, what 01 says of it.
+    /// For an accepted payload, what 01 and 02 say of it.
     bits: u32,
+    skipped: u32,
     /// The flat record up to its last number that is not 0.
     record: &'static [i32],
 }
@@ -22,6 +25,7 @@ const fn refused(payload: &'static str, number: u32) -> Listed {
         payload,
         number,
         bits: 0,
+        skipped: 0,
         record: &[],
     }
 }
@@ -32,8 +36,13 @@ const fn accepted(payload: &'static str, bits: u32, record: &'static [i32]) -> L
         payload,
         number: 0,
         bits,
+        skipped: 0,
         record,
     }
+}
+
+const fn skipping(skipped: u32, listed: Listed) -> Listed {
+    Listed { skipped, ..listed }
 }
 
 const fn wrapped(listed: Listed) -> Listed {
@@ -43,7 +52,7 @@ const fn wrapped(listed: Listed) -> Listed {
     }
 }
 
-const LISTED: [Listed; 31] = [
+const LISTED: [Listed; 50] = [
     refused("", 1),
     refused("00", 1),
     refused("00 00", 2),
@@ -63,9 +72,11 @@ const LISTED: [Listed; 31] = [
     ),
     refused("30", 4),
     refused("48", 5),
-    refused("58 50", 6),
+    // "5A 81 80 is now accepted with one skipped, and 58 50 gets 1" (02, b): 19
+    // blocks are announced, and none is there.
+    refused("58 50", 1),
     refused("58 4C", 1),
-    refused("5A 81 80", 8),
+    skipping(1, accepted("5A 81 80", 24, &[1])),
     refused("5A 80 80", 9),
     // "ms_weight bits: thirteen ones is -1; a one and twelve zeros is -4,096;
     // a zero and twelve ones is 4,095." 01 gives no whole payload; in these
@@ -100,8 +111,47 @@ const LISTED: [Listed; 31] = [
     // Payloads of the list behind the wrapper.
     wrapped(refused("B5 00 31 47 41 39 34 09 51", 7)),
     wrapped(refused("B5 00 31 47 41 39 34 09 00 00", 2)),
-    wrapped(refused("B5 00 31 47 41 39 34 09 58 50", 6)),
+    wrapped(refused("B5 00 31 47 41 39 34 09 58 50", 1)),
     wrapped(refused("B5 00 31 47 41 39 34 09 5A 80 80", 9)),
+    wrapped(skipping(
+        1,
+        accepted("B5 00 31 47 41 39 34 09 5A 81 80", 24, &[1]),
+    )),
+    // 02, b: "6 means above 254". 254 announced and 255, and nothing there.
+    refused("58 0F F0", 1),
+    refused("58 04 00", 6),
+    wrapped(refused("B5 00 31 47 41 39 34 09 58 04 00", 6)),
+    // 6 comes before a one in the zero bits behind the number.
+    refused("58 04 01", 6),
+    refused("58 0F F1", 7),
+    // Levels 0 and 255 are reserved too. Without the level's last bit it is not
+    // known, and a bit is missing.
+    skipping(1, accepted("5A 80 00", 24, &[1])),
+    skipping(1, accepted("5A FF 80", 24, &[1])),
+    refused("5A 81", 1),
+    // "Skip them by their length": one byte of ones, and five zero bits behind it.
+    skipping(1, accepted("5A 40 7F E0", 32, &[1])),
+    refused("5A 40 7F", 1),
+    refused("5A 40 7F F0", 7),
+    refused("5A 40 7F E0 00", 12),
+    // Behind an empty reserved block the level 1 block of 01's example begins at
+    // the ninth bit; then the two in the other order.
+    skipping(
+        1,
+        accepted("5B 81 98 04 00 30 01 00 00", 72, &[1, 1, 1, 0, 3072, 1024]),
+    ),
+    skipping(
+        1,
+        accepted("5B 30 08 00 60 02 00 04 0C", 72, &[1, 1, 1, 0, 3072, 1024]),
+    ),
+    // A length of 1,024, and the content is not there; with a length of 1,023 it
+    // is missing.
+    refused("5A 00 20 08 18", 9),
+    refused("5A 00 20 00 18", 1),
+    // The level is not there, so that 9 is not yet judged.
+    refused("5A 00 20 08", 1),
+    // A 16th zero in the length.
+    refused("5A 00 00 80 00 18", 2),
 ];
 
 fn from_hex(text: &str) -> Vec<u8> {
@@ -111,21 +161,31 @@ fn from_hex(text: &str) -> Vec<u8> {
 }
 
 /// Every listed payload, read; accepted ones are also written from the record
-/// that 01 names. Gives the number of payloads.
+/// that the papers name. Gives the number of payloads.
 pub fn compare_listed(compare: &mut Compare) -> usize {
     compare.begin("the payloads that 01 lists".to_string());
     for listed in &LISTED {
         let payload = from_hex(listed.payload);
-        let number = compare.read_lent(listed.wrapped, &payload, FLAT);
+        let number = compare.read_lent(listed.wrapped, &payload, FLAT, READING);
         let mut record = [0; FLAT];
         record[..listed.record.len()].copy_from_slice(listed.record);
         let as_listed = number == listed.number
-            && (number != 0 || (compare.record() == record && compare.single() == listed.bits));
+            && compare.bits() == listed.bits
+            && compare.skipped() == listed.skipped
+            && (number != 0 || compare.record() == record);
         if !as_listed {
             compare.fail(
-                "both implementations answer a listed payload otherwise than 01",
+                "both implementations answer a listed payload otherwise than the papers",
                 &format!("payload: {}", listed.payload),
-                &format!("01: {}, both: {}", listed.number, number),
+                &format!(
+                    "papers: {}, {} bits, {} skipped; both: {}, {} bits, {} skipped",
+                    listed.number,
+                    listed.bits,
+                    listed.skipped,
+                    number,
+                    compare.bits(),
+                    compare.skipped()
+                ),
             );
         }
         compare.read(listed.wrapped, &payload);
@@ -145,7 +205,7 @@ pub fn compare_listed(compare: &mut Compare) -> usize {
         let number = compare.write_lent(wrapped, &largest, bytes + 1);
         let written = compare.single();
         compare.write(wrapped, &largest, bytes);
-        let bits = compare.single();
+        let bits = compare.bits();
         if short != 13 || number != 0 || written as usize != bytes || bits != 1788 + 4 {
             compare.fail(
                 "both implementations write the largest record otherwise than 01",
@@ -163,10 +223,12 @@ pub fn compare_listed(compare: &mut Compare) -> usize {
 /// gets 7.
 const ACCEPTED: &str = "04 09 B5 00 31 47 41 39 34 09 50";
 const REFUSED: &str = "04 09 B5 00 31 47 41 39 34 09 51";
+/// One with 01's payload 5A 81 80, of which 02, b has one block passed over.
+const SKIPPED: &str = "04 0B B5 00 31 47 41 39 34 09 5A 81 80";
 
-/// What stands in a unit, `A` for ACCEPTED and `R` for REFUSED, and what the unit
-/// gets by 02, a.
-const UNITS: [(&str, u32); 76] = [
+/// What stands in a unit, `A` for ACCEPTED, `R` for REFUSED and `S` for SKIPPED,
+/// and what the unit gets by 02, a.
+const UNITS: [(&str, u32); 80] = [
     // Types 39 and 40, any layer, any temporal id plus one but 0.
     ("4E 01 A 80", 0),
     ("50 01 A 80", 0),
@@ -260,6 +322,11 @@ const UNITS: [(&str, u32); 76] = [
     // The first of ours decides.
     ("4E 01 R A 80", 7),
     ("4E 01 A R 80", 0),
+    ("4E 01 R S 80", 7),
+    // Reserved blocks in a unit.
+    ("4E 01 S 80", 0),
+    ("50 01 05 01 55 S 05 00 80", 0),
+    ("4E 01 S", 32),
     ("4E 01 04 08 B5 00 31 47 41 39 34 09 A 80", 1),
     // 01's refusals behind those of the unit.
     ("4E 01 R 80", 7),
@@ -267,8 +334,9 @@ const UNITS: [(&str, u32); 76] = [
     ("4E 00 R 00 00 01", 30),
 ];
 
-/// Every listed unit. What is accepted is the empty record, or in the one with
-/// zeros in its data 01's payload with three zeros. Gives the number of units.
+/// Every listed unit. What is accepted is the empty record, with a reserved block
+/// the record of no blocks, or in the one with zeros in its data 01's payload with
+/// three zeros. Gives the number of units.
 pub fn compare_units(compare: &mut Compare) -> usize {
     compare.begin("the units that 02 decides".to_string());
     for (text, expected) in UNITS {
@@ -277,6 +345,7 @@ pub fn compare_units(compare: &mut Compare) -> usize {
             .map(|word| match word {
                 "A" => ACCEPTED,
                 "R" => REFUSED,
+                "S" => SKIPPED,
                 byte => byte,
             })
             .collect();
@@ -285,12 +354,16 @@ pub fn compare_units(compare: &mut Compare) -> usize {
         let mut as_listed = number == expected;
         if number == 0 {
             let mut record = [0; FLAT];
-            let mut bits = 8;
-            if !spelled.contains(&ACCEPTED) {
+            let mut facts = (8, 0);
+            if spelled.contains(&SKIPPED) {
+                record[0] = 1;
+                facts = (24, 1);
+            } else if !spelled.contains(&ACCEPTED) {
                 record[..3].copy_from_slice(&[1, 1, 1]);
-                bits = 64;
+                facts = (64, 0);
             }
-            as_listed &= compare.record() == record && compare.single() == bits;
+            as_listed &= compare.record() == record;
+            as_listed &= (compare.bits(), compare.skipped()) == facts;
         }
         if !as_listed {
             compare.fail(

@@ -210,12 +210,12 @@ pub fn point_record(rng: &mut Rng) -> Record {
 /// A ue(v) code by its parts: `zeros` zeros, a one, then as many bits of
 /// `rest`.
 #[derive(Clone, Copy)]
-struct Code {
-    zeros: u32,
+pub struct Code {
+    pub zeros: u32,
     rest: u32,
 }
 
-fn ue(number: u32) -> Code {
+pub fn ue(number: u32) -> Code {
     let mut zeros = 0;
     while number + 1 >= 2 << zeros {
         zeros += 1;
@@ -234,32 +234,48 @@ fn long_code(rng: &mut Rng) -> Code {
     }
 }
 
-/// A block of a plan. `one` makes one of its zero bits a one.
+/// A block of a plan. `one` makes one of its zero bits a one. The content of a
+/// reserved block stands in `fields` too, byte by byte.
 #[derive(Clone)]
-struct BlockPlan {
-    length: Code,
-    level: u32,
-    fields: Vec<(u32, u32)>, // value, width
-    zeros: usize,
-    one: Option<usize>,
+pub struct BlockPlan {
+    pub length: Code,
+    pub level: u32,
+    pub fields: Vec<(u32, u32)>, // value, width
+    pub zeros: usize,
+    pub one: Option<usize>,
 }
 
 #[derive(Clone)]
-struct Plan {
+pub struct Plan {
     app_identifier: Code,
     app_version: Code,
     refresh: bool,
-    num_ext_blocks: Option<Code>,
+    pub num_ext_blocks: Option<Code>,
     /// Makes one of the zero bits before the first block a one.
-    first_one: Option<usize>,
-    blocks: Vec<BlockPlan>,
+    pub first_one: Option<usize>,
+    pub blocks: Vec<BlockPlan>,
     /// Makes one of the zero bits at the end a one.
-    last_one: Option<usize>,
+    pub last_one: Option<usize>,
     /// Bytes after the data.
-    rest: Vec<u8>,
+    pub rest: Vec<u8>,
 }
 
-fn block_plan(block: &Block) -> BlockPlan {
+/// A reserved block with this content.
+pub fn reserved(level: u32, content: &[u8]) -> BlockPlan {
+    BlockPlan {
+        length: ue(content.len() as u32),
+        level,
+        fields: content.iter().map(|&byte| (byte as u32, 8)).collect(),
+        zeros: 0,
+        one: None,
+    }
+}
+
+pub fn is_reserved(level: u32) -> bool {
+    level != 1 && level != 2 && level != 5
+}
+
+pub fn block_plan(block: &Block) -> BlockPlan {
     let (length, level, fields): (u32, u32, Vec<(u32, u32)>) = match *block {
         Block::Nothing => (0, 0, Vec::new()),
         Block::Level1 {
@@ -322,7 +338,7 @@ fn block_plan(block: &Block) -> BlockPlan {
     }
 }
 
-fn plan(list: &[Block]) -> Plan {
+pub fn plan(list: &[Block]) -> Plan {
     Plan {
         app_identifier: ue(1),
         app_version: ue(0),
@@ -378,7 +394,7 @@ impl BitString {
 
 /// The bytes of a plan. Also says how many zero bits stand before the first
 /// block and at the end, for a damage there needs at least one.
-fn bytes_of(plan: &Plan) -> (Vec<u8>, usize, usize) {
+pub fn bytes_of(plan: &Plan) -> (Vec<u8>, usize, usize) {
     let mut string = BitString {
         bytes: Vec::new(),
         bits: 0,
@@ -418,8 +434,11 @@ pub enum Kind {
     Extended,
     WrongLength,
     WrongLengthThenEnd,
-    WrongLevel,
-    WrongLevelAndLength,
+    ReservedLevel,
+    ReservedLevelAndLength,
+    Reserved,
+    ReservedCut,
+    ReservedTooLong,
     SecondLevel1,
     SecondLevel5,
     SeventeenthLevel2,
@@ -447,15 +466,18 @@ pub enum Kind {
     RandomBytes,
 }
 
-pub const KINDS: [Kind; 33] = [
+pub const KINDS: [Kind; 36] = [
     Kind::Valid,
     Kind::Largest,
     Kind::Cut,
     Kind::Extended,
     Kind::WrongLength,
     Kind::WrongLengthThenEnd,
-    Kind::WrongLevel,
-    Kind::WrongLevelAndLength,
+    Kind::ReservedLevel,
+    Kind::ReservedLevelAndLength,
+    Kind::Reserved,
+    Kind::ReservedCut,
+    Kind::ReservedTooLong,
     Kind::SecondLevel1,
     Kind::SecondLevel5,
     Kind::SeventeenthLevel2,
@@ -484,12 +506,13 @@ pub const KINDS: [Kind; 33] = [
 ];
 
 impl Kind {
-    /// What 01 answers to every payload of this kind, where that is certain
+    /// What 01 and 02 answer to every payload of this kind, where that is certain
     /// from the way it is made.
     pub fn certain(self) -> Option<u32> {
         match self {
             Kind::Valid | Kind::Largest => Some(0),
-            Kind::Cut | Kind::BlockMissing => Some(1),
+            Kind::ReservedLevel | Kind::Reserved => Some(0),
+            Kind::Cut | Kind::ReservedCut | Kind::BlockMissing => Some(1),
             Kind::LongCode => Some(2),
             Kind::AppIdentifier | Kind::AppIdentifierAndVersion => Some(4),
             Kind::AppVersion => Some(5),
@@ -500,15 +523,15 @@ impl Kind {
             | Kind::BlockZeroBitOfASecondLevel1
             | Kind::LastZeroBit
             | Kind::LastZeroBitAndExtended => Some(7),
-            Kind::WrongLevel | Kind::WrongLevelAndLength => Some(8),
-            Kind::WrongLength | Kind::WrongLengthThenEnd => Some(9),
+            Kind::WrongLength | Kind::WrongLengthThenEnd | Kind::ReservedTooLong => Some(9),
             Kind::Order | Kind::OrderOfASecondLevel1 => Some(10),
             Kind::SecondLevel1
             | Kind::SecondLevel5
             | Kind::SeventeenthLevel2
             | Kind::TargetAgain => Some(11),
             Kind::Extended => Some(12),
-            Kind::LongCodeCut
+            Kind::ReservedLevelAndLength
+            | Kind::LongCodeCut
             | Kind::BlockTooMany
             | Kind::FlagCleared
             | Kind::LooseFields
@@ -540,16 +563,46 @@ fn wrong_length(rng: &mut Rng, level: u32) -> u32 {
 }
 
 /// A level that is not 1, 2 or 5.
-fn wrong_level(rng: &mut Rng) -> u32 {
+pub fn reserved_level(rng: &mut Rng) -> u32 {
     loop {
         let level = match rng.below(3) {
             0 => rng.pick(&[0, 3, 4, 6, 7, 254, 255, 129, 130, 133]),
             _ => rng.below(256) as u32,
         };
-        if level != 1 && level != 2 && level != 5 {
+        if is_reserved(level) {
             return level;
         }
     }
+}
+
+/// Any reserved block; most are small.
+fn any_reserved(rng: &mut Rng) -> BlockPlan {
+    let n = match rng.below(32) {
+        0 => rng.below(301),
+        1..=9 => 0,
+        10..=13 => rng.pick(&[5, 7, 11]),
+        _ => rng.below(21),
+    };
+    let content = match rng.below(4) {
+        0 => vec![0; n],
+        1 => vec![0xFF; n],
+        _ => random_bytes(rng, n),
+    };
+    reserved(reserved_level(rng), &content)
+}
+
+/// Puts reserved blocks, at least one, at any places among the blocks of the
+/// plan, announced with the others.
+pub fn put_reserved(rng: &mut Rng, made: &mut Plan) {
+    let more = match rng.below(16) {
+        0 => rng.below(20) + 1,
+        _ => rng.below(3) + 1,
+    };
+    for _ in 0..more {
+        let block = any_reserved(rng);
+        made.blocks.insert(rng.below(made.blocks.len() + 1), block);
+    }
+    made.num_ext_blocks = Some(ue(made.blocks.len() as u32));
 }
 
 /// Puts the three numbers of a level 1 block into a wrong order.
@@ -642,6 +695,78 @@ fn blocks_with_two_level_1(rng: &mut Rng) -> (Vec<Block>, usize) {
     (list, second)
 }
 
+/// The plan of one of the kinds whose fault, if there is one, stands in a block of
+/// a known level.
+pub fn plan_of(kind: Kind, rng: &mut Rng) -> Option<Plan> {
+    Some(match kind {
+        Kind::Valid => plan(&any_blocks(rng)),
+        Kind::Largest => plan(&blocks(rng, true, LEVEL_2_BLOCKS, true)),
+        Kind::WrongLength => {
+            let mut made = plan(&some_blocks(rng));
+            let at = rng.below(made.blocks.len());
+            spoil_length(rng, &mut made.blocks[at]);
+            made
+        }
+        Kind::SecondLevel1 => plan(&blocks_with_two_level_1(rng).0),
+        Kind::SecondLevel5 => plan(&two_level_5(rng)),
+        Kind::SeventeenthLevel2 => plan(&seventeen_level_2(rng)),
+        Kind::TargetAgain => plan(&target_again(rng)),
+        Kind::Order => {
+            let list = blocks_with_level_1(rng);
+            let at = list.iter().position(is_level_1).unwrap();
+            let mut made = plan(&list);
+            spoil_order(rng, &mut made.blocks[at]);
+            made
+        }
+        Kind::OrderOfASecondLevel1 => {
+            let (list, second) = blocks_with_two_level_1(rng);
+            let mut made = plan(&list);
+            spoil_order(rng, &mut made.blocks[second]);
+            made
+        }
+        Kind::BlockZeroBit => {
+            let mut made = plan(&some_blocks(rng));
+            let at = rng.below(made.blocks.len());
+            made.blocks[at].one = Some(rng.below(840));
+            made
+        }
+        Kind::BlockZeroBitAndOrder => {
+            let list = blocks_with_level_1(rng);
+            let at = list.iter().position(is_level_1).unwrap();
+            let mut made = plan(&list);
+            spoil_order(rng, &mut made.blocks[at]);
+            made.blocks[at].one = Some(rng.below(840));
+            made
+        }
+        Kind::BlockZeroBitOfASecondLevel1 => {
+            let (list, second) = blocks_with_two_level_1(rng);
+            let mut made = plan(&list);
+            made.blocks[second].one = Some(rng.below(840));
+            made
+        }
+        _ => return None,
+    })
+}
+
+/// Blocks with two of level 5.
+fn two_level_5(rng: &mut Rng) -> Vec<Block> {
+    let with_1 = rng.one_in(2);
+    let level_2_blocks = rng.below(4);
+    let mut list = blocks(rng, with_1, level_2_blocks, true);
+    let first = list
+        .iter()
+        .position(|block| matches!(block, Block::Level5 { .. }))
+        .unwrap();
+    let second = first + 1 + rng.below(list.len() - first);
+    let block = if rng.one_in(2) {
+        list[first]
+    } else {
+        level_5(rng)
+    };
+    list.insert(second, block);
+    list
+}
+
 /// A payload of the kind.
 pub fn payload(kind: Kind, rng: &mut Rng) -> Vec<u8> {
     match kind {
@@ -654,7 +779,6 @@ pub fn payload(kind: Kind, rng: &mut Rng) -> Vec<u8> {
             }
             bytes_of(&made).0
         }
-        Kind::Largest => bytes_of(&plan(&blocks(rng, true, LEVEL_2_BLOCKS, true))).0,
         Kind::Cut => {
             let mut bytes = payload(Kind::Valid, rng);
             bytes.truncate(rng.below(bytes.len()));
@@ -664,12 +788,6 @@ pub fn payload(kind: Kind, rng: &mut Rng) -> Vec<u8> {
             let mut bytes = payload(Kind::Valid, rng);
             bytes.extend(extension(rng));
             bytes
-        }
-        Kind::WrongLength => {
-            let mut made = plan(&some_blocks(rng));
-            let at = rng.below(made.blocks.len());
-            spoil_length(rng, &mut made.blocks[at]);
-            bytes_of(&made).0
         }
         Kind::WrongLengthThenEnd => {
             // Ends within or just after the level's byte boundary: 9 comes
@@ -682,17 +800,19 @@ pub fn payload(kind: Kind, rng: &mut Rng) -> Vec<u8> {
             made.blocks[at].zeros = 0;
             bytes_of(&made).0
         }
-        Kind::WrongLevel => {
+        Kind::ReservedLevel => {
+            // The fields of a known level behind a reserved one.
             let mut made = plan(&some_blocks(rng));
             let at = rng.below(made.blocks.len());
-            made.blocks[at].level = wrong_level(rng);
+            made.blocks[at].level = reserved_level(rng);
             bytes_of(&made).0
         }
-        Kind::WrongLevelAndLength => {
+        Kind::ReservedLevelAndLength => {
+            // What follows begins inside or behind what stands there.
             let mut made = plan(&some_blocks(rng));
             let at = rng.below(made.blocks.len());
             spoil_length(rng, &mut made.blocks[at]);
-            made.blocks[at].level = wrong_level(rng);
+            made.blocks[at].level = reserved_level(rng);
             if rng.one_in(4) {
                 made.blocks.truncate(at + 1);
                 made.blocks[at].fields.clear();
@@ -700,37 +820,33 @@ pub fn payload(kind: Kind, rng: &mut Rng) -> Vec<u8> {
             }
             bytes_of(&made).0
         }
-        Kind::SecondLevel1 => bytes_of(&plan(&blocks_with_two_level_1(rng).0)).0,
-        Kind::SecondLevel5 => {
-            let with_1 = rng.one_in(2);
-            let level_2_blocks = rng.below(4);
-            let mut list = blocks(rng, with_1, level_2_blocks, true);
-            let first = list
-                .iter()
-                .position(|block| matches!(block, Block::Level5 { .. }))
-                .unwrap();
-            let second = first + 1 + rng.below(list.len() - first);
-            let block = if rng.one_in(2) {
-                list[first]
-            } else {
-                level_5(rng)
-            };
-            list.insert(second, block);
-            bytes_of(&plan(&list)).0
-        }
-        Kind::SeventeenthLevel2 => bytes_of(&plan(&seventeen_level_2(rng))).0,
-        Kind::TargetAgain => bytes_of(&plan(&target_again(rng))).0,
-        Kind::Order => {
-            let list = blocks_with_level_1(rng);
-            let at = list.iter().position(is_level_1).unwrap();
-            let mut made = plan(&list);
-            spoil_order(rng, &mut made.blocks[at]);
+        Kind::Reserved => {
+            let mut made = plan(&any_blocks(rng));
+            put_reserved(rng, &mut made);
             bytes_of(&made).0
         }
-        Kind::OrderOfASecondLevel1 => {
-            let (list, second) = blocks_with_two_level_1(rng);
-            let mut made = plan(&list);
-            spoil_order(rng, &mut made.blocks[second]);
+        Kind::ReservedCut => {
+            let mut bytes = payload(Kind::Reserved, rng);
+            bytes.truncate(rng.below(bytes.len()));
+            bytes
+        }
+        Kind::ReservedTooLong => {
+            // 9 comes before the content, whether that is there or not.
+            let mut made = plan(&any_blocks(rng));
+            put_reserved(rng, &mut made);
+            let places: Vec<usize> = (0..made.blocks.len())
+                .filter(|&i| is_reserved(made.blocks[i].level))
+                .collect();
+            let at = rng.pick(&places);
+            made.blocks[at].length = ue(match rng.below(3) {
+                0 => 1024,
+                1 => rng.pick(&[1025, 2046, 2047, 65_534, 32_767, 1024 + 256]),
+                _ => any_number(rng).clamp(1024, 65_534),
+            });
+            if rng.one_in(2) {
+                made.blocks.truncate(at + 1);
+                made.blocks[at].fields.clear();
+            }
             bytes_of(&made).0
         }
         Kind::FirstZeroBit => loop {
@@ -741,26 +857,6 @@ pub fn payload(kind: Kind, rng: &mut Rng) -> Vec<u8> {
                 return bytes;
             }
         },
-        Kind::BlockZeroBit => {
-            let mut made = plan(&some_blocks(rng));
-            let at = rng.below(made.blocks.len());
-            made.blocks[at].one = Some(rng.below(840));
-            bytes_of(&made).0
-        }
-        Kind::BlockZeroBitAndOrder => {
-            let list = blocks_with_level_1(rng);
-            let at = list.iter().position(is_level_1).unwrap();
-            let mut made = plan(&list);
-            spoil_order(rng, &mut made.blocks[at]);
-            made.blocks[at].one = Some(rng.below(840));
-            bytes_of(&made).0
-        }
-        Kind::BlockZeroBitOfASecondLevel1 => {
-            let (list, second) = blocks_with_two_level_1(rng);
-            let mut made = plan(&list);
-            made.blocks[second].one = Some(rng.below(840));
-            bytes_of(&made).0
-        }
         Kind::LastZeroBit | Kind::LastZeroBitAndExtended => loop {
             let mut made = plan(&any_blocks(rng));
             made.last_one = Some(rng.below(840));
@@ -791,9 +887,9 @@ pub fn payload(kind: Kind, rng: &mut Rng) -> Vec<u8> {
         Kind::TooManyBlocks | Kind::TooManyBlocksAndZeroBit => {
             let mut made = plan(&some_blocks(rng));
             let number = match rng.below(3) {
-                0 => 19,
-                1 => 19 + rng.below(12) as u32,
-                _ => any_number(rng).clamp(19, 65_534),
+                0 => 255,
+                1 => 255 + rng.below(12) as u32,
+                _ => any_number(rng).clamp(255, 65_534),
             };
             made.num_ext_blocks = Some(ue(number));
             if kind == Kind::TooManyBlocksAndZeroBit {
@@ -811,7 +907,8 @@ pub fn payload(kind: Kind, rng: &mut Rng) -> Vec<u8> {
             let mut list = any_blocks(rng);
             list.truncate(PLACES - 1);
             let mut made = plan(&list);
-            let announced = list.len() + 1 + rng.below(PLACES - list.len());
+            let most = if rng.one_in(2) { PLACES } else { 254 };
+            let announced = list.len() + 1 + rng.below(most - list.len());
             made.num_ext_blocks = Some(ue(announced as u32));
             bytes_of(&made).0
         }
@@ -874,6 +971,7 @@ pub fn payload(kind: Kind, rng: &mut Rng) -> Vec<u8> {
             }
             bytes
         }
+        _ => bytes_of(&plan_of(kind, rng).unwrap()).0,
     }
 }
 
@@ -938,9 +1036,9 @@ fn several_faults(rng: &mut Rng) -> Vec<u8> {
     let mut made = plan(&some_blocks(rng));
     for _ in 0..rng.below(3) + 2 {
         let at = rng.below(made.blocks.len());
-        match rng.below(13) {
+        match rng.below(14) {
             0 => {
-                let level = wrong_level(rng);
+                let level = reserved_level(rng);
                 made.blocks[at].level = level;
             }
             1 => spoil_length(rng, &mut made.blocks[at]),
@@ -965,13 +1063,17 @@ fn several_faults(rng: &mut Rng) -> Vec<u8> {
                     made.app_version = ue(wrong_number(rng, 0));
                 }
             }
-            9 => made.num_ext_blocks = Some(ue(rng.below(24) as u32)),
+            9 => {
+                let most = rng.pick(&[24, 24, 24, 300]);
+                made.num_ext_blocks = Some(ue(rng.below(most) as u32));
+            }
             10 => {
                 if rng.one_in(4) {
                     made.blocks[at].length = long_code(rng);
                 }
             }
             11 => made.refresh = !rng.one_in(4),
+            12 => put_reserved(rng, &mut made),
             _ => made.blocks[at].fields.truncate(2),
         }
     }
@@ -1233,7 +1335,7 @@ pub fn flat_record(kind: FlatKind, rng: &mut Rng) -> [i32; FLAT] {
             numbers[place(at)] = match rng.below(3) {
                 0 => 3,
                 1 => rng.pick(&[4, 6, 7, 10, 255, -1, -2, -5]),
-                _ => wrong_level(rng).max(3) as i32,
+                _ => reserved_level(rng).max(3) as i32,
             };
             numbers
         }

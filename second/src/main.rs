@@ -16,6 +16,7 @@ mod own;
 mod proved;
 mod reader;
 mod record;
+mod reserved;
 mod runs;
 mod shader;
 mod track;
@@ -99,15 +100,18 @@ fn compare_all(rounds: u64) -> c_int {
     for round in 0..rounds {
         let payloads = runs::made_payloads(&mut compare, round);
         let flips = runs::bit_flips(&mut compare, round);
+        let reserved = reserved::payloads(&mut compare, round);
         let writes = runs::made_writes(&mut compare, round);
         let blocks = runs::shader_numbers(&mut compare, round);
         let placings = runs::placings(&mut compare, round);
         println!(
-            "round {}: {} made inputs ({} payloads, {} bit flips, {} writes, {} blocks, {} placings)",
+            "round {}: {} made inputs ({} payloads, {} bit flips, {} payloads with reserved blocks, \
+             {} writes, {} blocks, {} placings)",
             round,
-            payloads + flips + writes + blocks + placings,
+            payloads + flips + reserved + writes + blocks + placings,
             payloads,
             flips,
+            reserved,
             writes,
             blocks,
             placings

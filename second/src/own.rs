@@ -1,28 +1,50 @@
 //! This program's own answers behind the interface of the proved archive
 //! (`proved.rs` has the same functions with the same arguments): flat records,
 //! flat tables, a result number, and lent arrays that stay as they were on a
-//! refusal.
+//! refusal, but for the facts of a reading, which are then zeros.
 //!
 //! Two rules belong to that interface and not to 01. An argument of a wrong
-//! length is refused with 13 before everything else: a record, a block, the
-//! bits of the shader numbers, and every table, so that 16 is never the answer
-//! to a table's length. A flat record that names no record is treated as one
-//! that is not valid, in a point too. The lengths of the bytes to be written
-//! are 01's business and keep 01's order (14 before 13).
+//! length is refused with 13 before everything else: a record, the facts of a
+//! reading, a block, the bits of the shader numbers, and every table, so that 16
+//! is never the answer to a table's length. A flat record that names no record is
+//! treated as one that is not valid, in a point too. The lengths of the bytes to
+//! be written are 01's business and keep 01's order (14 before 13).
 
-use crate::reader;
-use crate::record::{block_from_flat, from_flat, to_flat, Record, FLAT, FLAT_BLOCK};
+use crate::reader::{self, Reading};
+use crate::record::{block_from_flat, from_flat, to_flat, FLAT, FLAT_BLOCK};
 use crate::shader;
 use crate::track::{self, point_from_flat, table_to_flat, Point};
 use crate::track::{CLEARED, FLAT_POINT, FLAT_TABLE, POINTS};
 use crate::unit;
 use crate::writer;
 
-fn give_read(answer: Result<(Record, u32), u32>, record: &mut [i32], bits: &mut u32) -> u32 {
-    match answer {
-        Ok((read, count)) => {
-            to_flat(&read, record);
-            *bits = count;
+/// The facts of a reading: the bits read, and the number of blocks that were
+/// passed over.
+pub const READING: usize = 2;
+pub const BITS: usize = 0;
+pub const SKIPPED: usize = 1;
+
+/// What a reader answers, given to the arrays. A refusal leaves the record as it
+/// was and clears the facts; an array of facts that has not its length is left
+/// alone.
+fn give_read(
+    read: impl Fn(&[u8]) -> Result<Reading, u32>,
+    input: &[u8],
+    record: &mut [i32],
+    facts: &mut [u32],
+) -> u32 {
+    if facts.len() != READING {
+        return 13;
+    }
+    facts.fill(0);
+    if record.len() != FLAT {
+        return 13;
+    }
+    match read(input) {
+        Ok(reading) => {
+            to_flat(&reading.record, record);
+            facts[BITS] = reading.bits;
+            facts[SKIPPED] = reading.skipped;
             0
         }
         Err(refusal) => refusal,
@@ -30,27 +52,18 @@ fn give_read(answer: Result<(Record, u32), u32>, record: &mut [i32], bits: &mut 
 }
 
 #[inline(never)]
-pub fn read_bare(input: &[u8], record: &mut [i32], bits: &mut u32) -> u32 {
-    if record.len() != FLAT {
-        return 13;
-    }
-    give_read(reader::read_bare(input), record, bits)
+pub fn read_bare(input: &[u8], record: &mut [i32], facts: &mut [u32]) -> u32 {
+    give_read(reader::read_bare, input, record, facts)
 }
 
 #[inline(never)]
-pub fn read_wrapped(input: &[u8], record: &mut [i32], bits: &mut u32) -> u32 {
-    if record.len() != FLAT {
-        return 13;
-    }
-    give_read(reader::read_wrapped(input), record, bits)
+pub fn read_wrapped(input: &[u8], record: &mut [i32], facts: &mut [u32]) -> u32 {
+    give_read(reader::read_wrapped, input, record, facts)
 }
 
 #[inline(never)]
-pub fn read_unit(input: &[u8], record: &mut [i32], bits: &mut u32) -> u32 {
-    if record.len() != FLAT {
-        return 13;
-    }
-    give_read(unit::read_unit(input), record, bits)
+pub fn read_unit(input: &[u8], record: &mut [i32], facts: &mut [u32]) -> u32 {
+    give_read(unit::read_unit, input, record, facts)
 }
 
 fn give_number(answer: Result<usize, u32>, number: &mut u32) -> u32 {

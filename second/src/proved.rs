@@ -7,21 +7,24 @@ extern "C" {
         n: usize,
         record: *mut i32,
         record_len: usize,
-        bits: *mut u32,
+        reading: *mut u32,
+        reading_len: usize,
     ) -> u32;
     fn pim_read_wrapped(
         input: *const u8,
         n: usize,
         record: *mut i32,
         record_len: usize,
-        bits: *mut u32,
+        reading: *mut u32,
+        reading_len: usize,
     ) -> u32;
     fn pim_read_unit(
         input: *const u8,
         n: usize,
         record: *mut i32,
         record_len: usize,
-        bits: *mut u32,
+        reading: *mut u32,
+        reading_len: usize,
     ) -> u32;
     fn pim_write_bare(
         record: *const i32,
@@ -79,38 +82,41 @@ extern "C" {
 // elements, and a single number as a pointer, for the time of the call only; an
 // output never overlaps an input or another output.
 
-pub fn read_bare(input: &[u8], record: &mut [i32], bits: &mut u32) -> u32 {
+pub fn read_bare(input: &[u8], record: &mut [i32], facts: &mut [u32]) -> u32 {
     unsafe {
         pim_read_bare(
             input.as_ptr(),
             input.len(),
             record.as_mut_ptr(),
             record.len(),
-            bits,
+            facts.as_mut_ptr(),
+            facts.len(),
         )
     }
 }
 
-pub fn read_wrapped(input: &[u8], record: &mut [i32], bits: &mut u32) -> u32 {
+pub fn read_wrapped(input: &[u8], record: &mut [i32], facts: &mut [u32]) -> u32 {
     unsafe {
         pim_read_wrapped(
             input.as_ptr(),
             input.len(),
             record.as_mut_ptr(),
             record.len(),
-            bits,
+            facts.as_mut_ptr(),
+            facts.len(),
         )
     }
 }
 
-pub fn read_unit(input: &[u8], record: &mut [i32], bits: &mut u32) -> u32 {
+pub fn read_unit(input: &[u8], record: &mut [i32], facts: &mut [u32]) -> u32 {
     unsafe {
         pim_read_unit(
             input.as_ptr(),
             input.len(),
             record.as_mut_ptr(),
             record.len(),
-            bits,
+            facts.as_mut_ptr(),
+            facts.len(),
         )
     }
 }

@@ -1,11 +1,26 @@
-//! 01, "The data, bit by bit" and "The wrapper". Every step that can fail
-//! answers with 01's refusal number, and the first failure decides.
+//! 01, "The data, bit by bit" and "The wrapper", with 02's request b: blocks of
+//! reserved levels are passed over. Every step that can fail answers with the
+//! refusal number, and the first failure decides.
 
 use crate::record::{repeats, Block, Record, EMPTY};
 
 /// B5; 00 31; 47 41 39 34; 09: country, provider, user identifier and the type
 /// code of ST2094-10_data (002, table 6.3).
 pub const WRAPPER: [u8; 8] = [0xB5, 0x00, 0x31, 0x47, 0x41, 0x39, 0x34, 0x09];
+
+/// "Up to 254 blocks may be announced" (02, b).
+const MOST_ANNOUNCED: u32 = 254;
+/// "Skip them by their length, up to 1,023 bytes" (02, b).
+const MOST_SKIPPED_BYTES: u32 = 1023;
+
+/// What an accepted input gives: the record, which holds the known blocks alone,
+/// the bits read, and the number of blocks that were passed over.
+#[derive(Clone, Copy, PartialEq, Eq, Debug)]
+pub struct Reading {
+    pub record: Record,
+    pub bits: u32,
+    pub skipped: u32,
+}
 
 /// The input, and how many of its bits were read.
 struct Bits<'a> {
@@ -61,6 +76,15 @@ impl Bits<'_> {
         Ok((1 << k) - 1 + self.u(k)?)
     }
 
+    /// Bits that are not looked at. They have to be there.
+    fn pass_over(&mut self, n: usize) -> Result<(), u32> {
+        if n > 8 * self.input.len() - self.read {
+            return Err(1);
+        }
+        self.read += n;
+        Ok(())
+    }
+
     fn zero_bit(&mut self) -> Result<(), u32> {
         if self.bit()? == 1 {
             return Err(7);
@@ -77,16 +101,25 @@ impl Bits<'_> {
     }
 }
 
-/// One block, up to refusal 10. "In a block: length read, level read, 8, 9,
-/// then fields and zero bits (1 or 7, bit by bit), then 10, then 11."
-fn read_block(bits: &mut Bits) -> Result<Block, u32> {
+/// One block, up to refusal 10, or none where it was passed over. "In a block:
+/// length read, level read, [..] 9, then fields and zero bits (1 or 7, bit by
+/// bit), then 10, then 11." Of a reserved level 9 means a length above 1,023; its
+/// "contents of any kind" begin behind the level, and what follows them begins at
+/// the very next bit.
+fn read_block(bits: &mut Bits) -> Result<Option<Block>, u32> {
     let length = bits.ue()?;
     let level = bits.u(8)?;
     let its_length = match level {
         1 => 5,
         2 => 11,
         5 => 7,
-        _ => return Err(8),
+        _ => {
+            if length > MOST_SKIPPED_BYTES {
+                return Err(9);
+            }
+            bits.pass_over(8 * length as usize)?;
+            return Ok(None);
+        }
     };
     if length != its_length {
         return Err(9);
@@ -127,13 +160,14 @@ fn read_block(bits: &mut Bits) -> Result<Block, u32> {
             return Err(10);
         }
     }
-    Ok(block)
+    Ok(Some(block))
 }
 
-/// The record and the bits read, or the refusal number.
-pub fn read_bare(input: &[u8]) -> Result<(Record, u32), u32> {
+/// The reading, or the refusal number.
+pub fn read_bare(input: &[u8]) -> Result<Reading, u32> {
     let mut bits = Bits { input, read: 0 };
     let mut record = EMPTY;
+    let mut skipped = 0;
     let app_identifier = bits.ue()?;
     if app_identifier != 1 {
         return Err(4);
@@ -146,18 +180,27 @@ pub fn read_bare(input: &[u8]) -> Result<(Record, u32), u32> {
     record.refresh = metadata_refresh_flag == 1;
     if record.refresh {
         let num_ext_blocks = bits.ue()?;
-        if num_ext_blocks > 18 {
+        if num_ext_blocks > MOST_ANNOUNCED {
             return Err(6);
         }
         if num_ext_blocks > 0 {
             bits.zeros_to_byte()?;
             // "Blocks are not byte aligned after the first."
-            for i in 0..num_ext_blocks as usize {
-                let block = read_block(&mut bits)?;
-                if repeats(&record.places[..i], &block) {
+            for _ in 0..num_ext_blocks {
+                let block = match read_block(&mut bits)? {
+                    Some(block) => block,
+                    None => {
+                        skipped += 1;
+                        continue;
+                    }
+                };
+                let held = record.count as usize;
+                if repeats(&record.places[..held], &block) {
                     return Err(11);
                 }
-                record.places[i] = block;
+                // One of level 1, one of level 5 and sixteen of level 2 fill the
+                // 18 places, and every known block behind them is a repeat.
+                record.places[held] = block;
                 record.count += 1;
             }
         }
@@ -166,12 +209,16 @@ pub fn read_bare(input: &[u8]) -> Result<(Record, u32), u32> {
     if bits.read < 8 * input.len() {
         return Err(12);
     }
-    Ok((record, bits.read as u32))
+    Ok(Reading {
+        record,
+        bits: bits.read as u32,
+        skipped,
+    })
 }
 
 /// The eight wrapper bytes from left to right, then the data from the ninth
 /// byte on. The wrapper does not count among the bits read.
-pub fn read_wrapped(input: &[u8]) -> Result<(Record, u32), u32> {
+pub fn read_wrapped(input: &[u8]) -> Result<Reading, u32> {
     for i in 0..WRAPPER.len() {
         if i >= input.len() {
             return Err(1);

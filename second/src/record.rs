@@ -3,13 +3,13 @@
 //! The second half is the flat record, the form in which records cross the
 //! interface of the proved archive.
 
-/// At most 18 blocks in all.
+/// At most 18 known blocks in all.
 pub const PLACES: usize = 18;
 /// At most sixteen blocks of level 2.
 pub const LEVEL_2_BLOCKS: usize = 16;
-/// The largest bare payload.
+/// The largest bare payload that is written.
 pub const BARE_BYTES: usize = 224;
-/// The largest wrapped payload.
+/// The largest wrapped payload that is written.
 pub const WRAPPED_BYTES: usize = 232;
 
 /// One place: nothing, or a block of one of the three levels with the fields

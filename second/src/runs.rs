@@ -5,12 +5,33 @@ use crate::made::{
     certain_of_wrapper, flat_record, payload, pictures, point_record, wrapped, FlatKind, Kind, Rng,
     WrapperKind, FLAT_KINDS, KINDS, WRAPPER_KINDS,
 };
+use crate::own::READING;
 use crate::reader::WRAPPER;
 use crate::record::{flat, EMPTY, FLAT, FLAT_BLOCK};
 use crate::track::{FLAT_POINT, FLAT_TABLE, POINTS};
 
 /// The lengths that are wrong for a flat record.
 pub const WRONG_RECORD_LENGTHS: [usize; 5] = [0, 1, 145, 147, 292];
+
+/// Lengths of a flat record and of the facts of a reading of which one, or both,
+/// is wrong.
+pub const WRONG_READ_LENGTHS: [(usize, usize); 14] = [
+    (0, READING),
+    (1, READING),
+    (FLAT - 1, READING),
+    (FLAT + 1, READING),
+    (2 * FLAT, READING),
+    (FLAT, 0),
+    (FLAT, READING - 1),
+    (FLAT, READING + 1),
+    (FLAT, 2 * READING),
+    (FLAT - 1, READING - 1),
+    (FLAT + 1, READING + 1),
+    (0, 0),
+    (1, READING + 1),
+    // Their sum is right.
+    (FLAT + 1, READING - 1),
+];
 
 /// The lengths that are wrong for a table: a number or a point too few or too
 /// many, nothing, one point, 63 points and one number, and the number of points
@@ -107,9 +128,9 @@ pub fn made_payloads(compare: &mut Compare, round: u64) -> u64 {
             }
             if i % 256 == 0 {
                 // The wrong lengths come before everything else.
-                for length in WRONG_RECORD_LENGTHS {
+                for (length, facts) in WRONG_READ_LENGTHS {
                     for is_wrapped in [false, true] {
-                        let number = compare.read_lent(is_wrapped, &data, length);
+                        let number = compare.read_lent(is_wrapped, &data, length, facts);
                         expect(compare, &data, Some(13), number);
                         cases += 1;
                     }
@@ -122,7 +143,7 @@ pub fn made_payloads(compare: &mut Compare, round: u64) -> u64 {
 
 /// Where the way in which an input was made leaves only one answer, both
 /// implementations must have given it.
-fn expect(compare: &Compare, input: &[u8], certain: Option<u32>, number: u32) {
+pub fn expect(compare: &Compare, input: &[u8], certain: Option<u32>, number: u32) {
     if let Some(expected) = certain {
         if number != expected {
             compare.fail(

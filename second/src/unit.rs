@@ -4,7 +4,7 @@
 //! before document 01's". So each has a pass of its own, which knows that those
 //! before it found nothing.
 
-use crate::reader::{read_wrapped, WRAPPER};
+use crate::reader::{read_wrapped, Reading, WRAPPER};
 use crate::record::{Record, WRAPPED_BYTES};
 use crate::writer::write_wrapped;
 
@@ -123,7 +123,7 @@ fn messages(bytes: &[u8]) -> Result<Vec<Message>, u32> {
 /// "The first message of type 4 that begins with our eight wrapper bytes goes
 /// to the existing reader, whose answer stands; the others are passed over."
 /// 33: "none of our messages".
-pub fn read_unit(unit: &[u8]) -> Result<(Record, u32), u32> {
+pub fn read_unit(unit: &[u8]) -> Result<Reading, u32> {
     check_header(unit)?;
     check_emulation(unit)?;
     let bytes = without_emulation(&unit[HEADER.len()..]);

@@ -8,9 +8,10 @@
 use crate::compare::Compare;
 use crate::made::{blocks, flat_record, holding, payload, random_bytes, FlatKind, Kind, Rng};
 use crate::made::{FLAT_KINDS, KINDS};
+use crate::own::READING;
 use crate::reader::WRAPPER;
 use crate::record::{flat, from_flat, valid, Block, FLAT, LEVEL_2_BLOCKS, WRAPPED_BYTES};
-use crate::runs::{meant, rng, WRONG_RECORD_LENGTHS};
+use crate::runs::{meant, rng, WRONG_READ_LENGTHS, WRONG_RECORD_LENGTHS};
 use crate::unit::UNIT_LIMIT;
 use crate::writer::write_wrapped;
 
@@ -136,10 +137,11 @@ fn read(compare: &mut Compare, unit: &[u8], expected: &Meant) {
         Meant::Number(refusal) => number == *refusal,
         Meant::AsWrapped(content) => {
             let record = compare.record().to_vec();
-            let bits = compare.single();
-            let wrapped = compare.read_lent(true, content, FLAT);
+            let facts = (compare.bits(), compare.skipped());
+            let wrapped = compare.read_lent(true, content, FLAT, READING);
             number == wrapped
-                && (number != 0 || (compare.record() == record && compare.single() == bits))
+                && facts == (compare.bits(), compare.skipped())
+                && (number != 0 || compare.record() == record)
         }
     };
     if !as_meant {
@@ -308,8 +310,9 @@ fn middling(rng: &mut Rng) -> Plan {
         for _ in 0..rng.below(4) {
             made.messages.push(other(rng));
         }
-        let data = match rng.below(3) {
+        let data = match rng.below(4) {
             0 => payload(Kind::Valid, rng),
+            1 => payload(Kind::Reserved, rng),
             _ => wrapped_payload(&quiet_record(rng)).split_off(WRAPPER.len()),
         };
         let at = rng.below(made.messages.len() + 1);
@@ -494,8 +497,8 @@ pub fn made_units(compare: &mut Compare, round: u64) -> u64 {
             cases += 1;
             if i % 256 == 0 {
                 // The wrong lengths come before everything else.
-                for length in WRONG_RECORD_LENGTHS {
-                    let number = compare.read_unit_lent(&unit, length);
+                for (length, facts) in WRONG_READ_LENGTHS {
+                    let number = compare.read_unit_lent(&unit, length, facts);
                     meant(compare, number, 13);
                     cases += 1;
                 }

@@ -1,27 +1,30 @@
 -- Laws by which the functions that read a block meet their definitions.
-use Prim.Native.Nat.{ℕ, _+_, _-_, _*_, _≤_}
+use Prim.Native.Nat.{ℕ, _+_, _-_, _*_, _<_, _≤_}
 use mathlib.Core.Path.{_≡_, refl, ap, sym, _∙_}
 use mathlib.Core.List.{List, map}
 use mathlib.Core.Bool.{Bool, true, false, cond}
 use native.Mathlib.Omega.{arith}
 use native.Mathlib.Nat.{add-zero}
-use borrow.Author.Tests.{eq-eqb, ne-eqb}
-use lib.Dec.{eqb}
-use lib.IntN.{ℤ, pos}
-use lib.ListN.{drop}
+use borrow.Author.Tests.{eq-eqb, ne-eqb, leb-true, le-leb, lt-leb}
+use lib.Dec.{eqb, leb}
+use lib.IntN.{ℤ, pos, negsuc}
+use lib.ListN.{length, drop}
 use lib.Seq.{drop-drop}
-use Rattle.refusals.specs.Refusals.{refusal, unknownLevel, wrongLength, notInOrder}
+use Rattle.refusals.specs.Refusals.{refusal, pastEnd, wrongLength, notInOrder}
 use Rattle.refusals.specs.declared.Refusal.{Refusal}
-use Rattle.tree.specs.Reading.{Rule, Fault, numberIn, breaks, Out, ok, no, Reader, widened, andThen, mapped, u, ue}
+use Rattle.tree.specs.Bits.{bitsOf}
+use Rattle.tree.specs.Reading.{between, allows, Rule, meets, Fault, numberIn, breaks, Out, ok, no, Reader, widened, andThen, mapped, u, ue}
 use Rattle.tree.specs.Coding.{unsigned, totalWidth, mostZeros, Descriptor, variable, fixed, natural, holdsIn, widthIn}
-use Rattle.tree.specs.Syntax.{Syntax, done, position, must, any, codingOf, row, zeroBits, read, _>>=_}
+use Rattle.tree.specs.Syntax.{Syntax, done, must, any, codingOf, row, zeroBits, read, _>>=_}
 use Rattle.tree.specs.Meaning.{Element, sumOfWidths, complete, Follow, Means}
+use Rattle.tree.proofs.Truth.{clash, and-parts}
+use Rattle.tree.proofs.Bits.{length-rest}
 use Rattle.tree.proofs.Codes.{no-not-ok}
 use Rattle.tree.proofs.Elements.{codes-ue, length-ue, zeros-few}
 use Rattle.tree.proofs.Meaning.{widths-append, every-answer-is-true}
-use Rattle.tree.proofs.Tables.{read-then, then-same, then-then}
+use Rattle.tree.proofs.Tables.{read-then, then-done, then-same, then-then}
 use Rattle.tree.proofs.Spells.{apart-complete, any-only, must-only, done-only, row-only, zeros-only}
-use Rattle.tree.proofs.Steps.{read-any}
+use Rattle.tree.proofs.Steps.{read-any, bits-there, bits-short}
 use Rattle.tree.proofs.Widths.{widths-fields, variable-width}
 use Rattle.tree.proofs.Accepted.{widths-zeros}
 use Rattle.record.specs.declared.Block.{Block}
@@ -29,13 +32,13 @@ use Rattle.record.specs.declared.Block.the-variants.{Nothing, Level1, Level2, L
 use Rattle.record.specs.Name.{Name, «ext_block_length», «ext_block_level», «ext_dm_alignment_zero_bit»}
 use Rattle.record.specs.Level.{Level, level, level1, level2, level5, reserved, known, fieldsOf, codings, padding}
 use Rattle.record.specs.Blocks.{inOrder}
-use Rattle.valid.specs.Valid.{isBlock}
-use Rattle.syntax.specs.Data.{blockOf, knownRule, lengthRule, averageRule, orderRules, content, wholeBlock, block}
-use Rattle.syntax.proofs.Blocks.{block-only, valid-is-block}
-use Rattle.syntax.proofs.Steps.{read-known, read-own-length, read-in-order, read-not-in-order}
-use Rattle.fields.specs.Step.{stepOf, refusedStep}
-use Rattle.fields.specs.declared.Step.the-variants.{Is, Refused}
-use Rattle.block.specs.Parts.{stepBehind, stepTook, afterFields, contentFrom, body, afterLength}
+use Rattle.syntax.specs.Data.{mostReserved, Item, kept, passed, blockOf, lengthRule, averageRule, orderRules, content, reservedBits, reservedContent, wholeBlock, block}
+use Rattle.syntax.specs.Element.{itemFits}
+use Rattle.syntax.proofs.Blocks.{contentOf, block-only}
+use Rattle.syntax.proofs.Largest.{reserved-width}
+use Rattle.syntax.proofs.Steps.{read-own-length, read-reserved-length, read-in-order, read-not-in-order}
+use Rattle.block.specs.declared.Part.the-variants.{Kept, Passed, Refused}
+use Rattle.block.specs.Parts.{partOf, refusedPart, partBehind, partTook, afterFields, contentFrom, body, afterLength}
 
 -- ---- how many bits are taken
 
@@ -50,12 +53,13 @@ module _ {A : Type 0} (k : ℕ) (p : Syntax Name A) (h : Takes k p) (at : ℕ) (
       let m : Means p at s (ok a n) = rw e at (every-answer-is-true p at s) in
       omega (arith, m .3, h at (m .0) a (m .1))
 
--- as a step
-pub took-few : (k : ℕ) (p : Syntax Name Block) → Takes k p → (at : ℕ) (s : List Bool) → stepTook (stepOf (read p at s)) ≤ k
+-- as a part
+pub took-few : (k : ℕ) (p : Syntax Name Item) → Takes k p → (at : ℕ) (s : List Bool) → partTook (partOf (read p at s)) ≤ k
 took-few k p h at s = go (read p at s) refl
   where
-    go : (o : Out Name Block) → read p at s ≡ o → stepTook (stepOf o) ≤ k
-    go (ok a m) e = takes-few k p h at s a m e
+    go : (o : Out Name Item) → read p at s ≡ o → partTook (partOf o) ≤ k
+    go (ok (kept b) m) e = takes-few k p h at s (kept b) m e
+    go (ok (passed l n zs) m) e = takes-few k p h at s (passed l n zs) m e
     go (no r) e = omega arith
 
 module _ {A B : Type 0} (k j : ℕ) where
@@ -98,9 +102,9 @@ few l = go (eqb l 1) (eqb l 2) (eqb l 5)
     go false false true = (refl, omega arith)
     go false false false = (refl, omega arith)
 
--- the most bits of a level's fields and zero bits; with the level; with the length
+-- the most bits of a block's content; with the level; with the length
 abbrev pub contentBits : ℕ
-contentBits = 8 * level 2 .bytes
+contentBits = 8 * mostReserved
 
 abbrev pub blockBits : ℕ
 blockBits = 2 * mostZeros + 1 + (8 + contentBits)
@@ -121,23 +125,23 @@ module _ (l at : ℕ) (s : List Bool) where
       go (no f) q x = no-not-ok x
 
 -- the order of level 1, in a block that began at `start`
-abbrev pub ordered : ℕ → Block → Syntax Name Block
-ordered start b = orderRules start b >>= λ o. done b
+abbrev pub ordered : ℕ → Item → Syntax Name Item
+ordered start i = orderRules start i >>= λ o. done i
 
-takes-order : (start : ℕ) (b : Block) → Takes 0 (ordered start b)
+takes-order : (start : ℕ) (b : Block) → Takes 0 (ordered start (kept b))
 unfolding _>>=_
-takes-order start Nothing = takes-done Nothing
-takes-order start (Level1 min max avg) = takes-must 0 (averageRule start min max avg) (λ o. done (Level1 min max avg)) (takes-done (Level1 min max avg))
-takes-order start (Level2 t s o p c g m) = takes-done (Level2 t s o p c g m)
-takes-order start (Level5 l r t b) = takes-done (Level5 l r t b)
+takes-order start Nothing = takes-done (kept Nothing)
+takes-order start (Level1 min max avg) = takes-must 0 (averageRule start min max avg) (λ o. done (kept (Level1 min max avg))) (takes-done (kept (Level1 min max avg)))
+takes-order start (Level2 t s o p c g m) = takes-done (kept (Level2 t s o p c g m))
+takes-order start (Level5 l r t b) = takes-done (kept (Level5 l r t b))
 
 takes-after-fields : (start l : ℕ) (b : Block) → Takes (padding l) (afterFields start l b)
 takes-after-fields start l b at es a h =
-    let t = takes-then (padding l) 0 (zeroBits «ext_dm_alignment_zero_bit» (padding l)) (λ z. ordered start b)
+    let t = takes-then (padding l) 0 (zeroBits «ext_dm_alignment_zero_bit» (padding l)) (λ z. ordered start (kept b))
     (λ there fs z f. omega (arith, ap sumOfWidths (zeros-only «ext_dm_alignment_zero_bit» (padding l) there fs f), widths-zeros (padding l) «ext_dm_alignment_zero_bit»)) (λ z. takes-order start b) at es a h in
     omega (arith, t)
 
-pub few-zeros : (start l : ℕ) (b : Block) (at : ℕ) (s : List Bool) → stepTook (stepOf (read (afterFields start l b) at s)) ≤ contentBits
+pub few-zeros : (start l : ℕ) (b : Block) (at : ℕ) (s : List Bool) → partTook (partOf (read (afterFields start l b) at s)) ≤ contentBits
 few-zeros start l b at s = omega (arith, took-few (padding l) (afterFields start l b) (takes-after-fields start l b) at s, few l)
 
 takes-content : (start l : ℕ) → Takes contentBits (contentFrom start l)
@@ -145,52 +149,87 @@ takes-content start l at es b h =
     let t = takes-then (totalWidth (codings l)) (padding l) (row (fieldsOf l)) (λ zs. afterFields start l (blockOf l zs)) (takes-fields l) (λ zs. takes-after-fields start l (blockOf l zs)) at es b h in
     omega (arith, t, few l)
 
-pub takes-body : (start there : ℕ) (n l : ℤ) → Takes contentBits (body start there n l)
-takes-body start there n l =
-    takes-must contentBits (knownRule there l) (λ known. must (lengthRule start n (natural l)) >>= λ own. contentFrom start (natural l))
-    (takes-must contentBits (lengthRule start n (natural l)) (λ own. contentFrom start (natural l)) (takes-content start (natural l)))
+-- the content of a block, as the functions read it
+abbrev either : (start l n : ℕ) → Syntax Name Item
+either start l n = cond (known l) (contentFrom start l) (reservedContent l n)
+
+takes-reserved : (l n : ℕ) → n ≤ mostReserved → Takes contentBits (reservedContent l n)
+unfolding reservedContent
+takes-reserved l n h at es i k =
+    let a = apart-complete (row (reservedBits n)) (λ zs. done (passed l n zs)) at es i k in
+    let r = row-only (reservedBits n) at (a .first) (a .made) (a .one) in
+    omega (
+      arith,
+      ap sumOfWidths (a .all),
+      widths-append (a .first) (a .second),
+      ap sumOfWidths (r .1),
+      widths-fields (reservedBits n) (a .made) (r .0),
+      reserved-width n,
+      takes-done (passed l n (a .made)) (at + sumOfWidths (a .first)) (a .second) i (a .two),
+    )
+
+-- a length that a reserved block may have
+few-bytes : (n : ℤ) → allows (between (pos 0) (pos mostReserved)) n ≡ true → natural n ≤ mostReserved
+few-bytes (pos n) h = leb-true n mostReserved (and-parts (leb 0 n) (leb n mostReserved) h .1)
+few-bytes (negsuc n) h = omega arith
+
+pub takes-body : (start : ℕ) (n l : ℤ) → Takes contentBits (body start n l)
+takes-body start n l at es i f =
+    let m = must-only (lengthRule start n (natural l)) (λ own. either start (natural l) (natural n)) at es i f in
+    go (known (natural l)) refl (m .0) (m .1)
+  where
+    go : (t : Bool) → known (natural l) ≡ t → meets (lengthRule start n (natural l)) ≡ true → Follow (either start (natural l) (natural n)) at es (complete i) → sumOfWidths es ≤ contentBits
+    go true q own k = takes-content start (natural l) at es i (rw q at k)
+    go false q own k = takes-reserved (natural l) (natural n) (few-bytes n (rw q at own)) at es i (rw q at k)
 
 pub takes-after-length : (start : ℕ) (n : ℤ) → Takes (8 + contentBits) (afterLength start n)
-unfolding Follow _>>=_
-takes-after-length start n at es b h =
-    takes-element contentBits 8 «ext_block_level» (fixed (unsigned 8)) (body start at n) (λ z q. omega arith) (takes-body start at n) at es b h
+takes-after-length start n = takes-element contentBits 8 «ext_block_level» (fixed (unsigned 8)) (body start n) (λ z q. omega arith) (takes-body start n)
 
 -- ---- the order of level 1, right behind the zero bits
 
 module _ (start : ℕ) where
-  zeros-ordered : (l : ℕ) (b : Block) (at : ℕ) (s : List Bool) → read (zeroBits «ext_dm_alignment_zero_bit» (padding l) >>= (λ z. done b) >>= ordered start) at s ≡ read (afterFields start l b) at s
+  zeros-ordered : (l : ℕ) (b : Block) (at : ℕ) (s : List Bool) → read (zeroBits «ext_dm_alignment_zero_bit» (padding l) >>= (λ z. done (kept b)) >>= ordered start) at s ≡ read (afterFields start l b) at s
   unfolding _>>=_
-  zeros-ordered l b at s = then-then (zeroBits «ext_dm_alignment_zero_bit» (padding l)) (λ z. done b) (ordered start) at s
+  zeros-ordered l b at s = then-then (zeroBits «ext_dm_alignment_zero_bit» (padding l)) (λ z. done (kept b)) (ordered start) at s
 
   content-ordered : (l at : ℕ) (s : List Bool) → read (content l >>= ordered start) at s ≡ read (contentFrom start l) at s
   unfolding content
   content-ordered l at s =
-      then-then (row (fieldsOf l)) (λ zs. zeroBits «ext_dm_alignment_zero_bit» (padding l) >>= λ z. done (blockOf l zs)) (ordered start) at s
-      ∙ then-same (row (fieldsOf l)) (λ zs. zeroBits «ext_dm_alignment_zero_bit» (padding l) >>= (λ z. done (blockOf l zs)) >>= ordered start) (λ zs. afterFields start l (blockOf l zs)) (λ zs. zeros-ordered l (blockOf l zs)) at s
+      then-then (row (fieldsOf l)) (λ zs. zeroBits «ext_dm_alignment_zero_bit» (padding l) >>= λ z. done (kept (blockOf l zs))) (ordered start) at s
+      ∙ then-same (row (fieldsOf l)) (λ zs. zeroBits «ext_dm_alignment_zero_bit» (padding l) >>= (λ z. done (kept (blockOf l zs))) >>= ordered start) (λ zs. afterFields start l (blockOf l zs)) (λ zs. zeros-ordered l (blockOf l zs)) at s
+
+  -- a reserved block has no order
+  reserved-ordered : (l n at : ℕ) (s : List Bool) → read (reservedContent l n >>= ordered start) at s ≡ read (reservedContent l n) at s
+  unfolding reservedContent _>>=_
+  reserved-ordered l n at s = then-then (row (reservedBits n)) (λ zs. done (passed l n zs)) (ordered start) at s
+
+  either-ordered : (l n at : ℕ) (s : List Bool) → read (contentOf l n >>= ordered start) at s ≡ read (either start l n) at s
+  either-ordered l n at s = go (known l)
+    where
+      go : (t : Bool) → read (cond t (content l) (reservedContent l n) >>= ordered start) at s ≡ read (cond t (contentFrom start l) (reservedContent l n)) at s
+      go true = content-ordered l at s
+      go false = reserved-ordered l n at s
 
   -- the same parts, with the order behind the block
-  abbrev bodyThen : (there : ℕ) → (n l : ℤ) → Syntax Name Block
-  bodyThen there n l = must (knownRule there l) >>= λ known. must (lengthRule start n (natural l)) >>= λ own. content (natural l) >>= ordered start
+  abbrev bodyThen : (n l : ℤ) → Syntax Name Item
+  bodyThen n l = must (lengthRule start n (natural l)) >>= λ own. contentOf (natural l) (natural n) >>= ordered start
 
-  body-ordered : (there : ℕ) (n l : ℤ) (at : ℕ) (s : List Bool) → read (bodyThen there n l) at s ≡ read (body start there n l) at s
-  body-ordered there n l =
-      then-same (must (knownRule there l)) (λ known. must (lengthRule start n (natural l)) >>= λ own. content (natural l) >>= ordered start) (λ known. must (lengthRule start n (natural l)) >>= λ own. contentFrom start (natural l))
-      (λ known. then-same (must (lengthRule start n (natural l))) (λ own. content (natural l) >>= ordered start) (λ own. contentFrom start (natural l)) (λ own. content-ordered (natural l)))
+  body-ordered : (n l : ℤ) (at : ℕ) (s : List Bool) → read (bodyThen n l) at s ≡ read (body start n l) at s
+  body-ordered n l =
+      then-same (must (lengthRule start n (natural l))) (λ own. contentOf (natural l) (natural n) >>= ordered start) (λ own. either start (natural l) (natural n)) (λ own. either-ordered (natural l) (natural n))
 
-  abbrev lengthThen : ℤ → Syntax Name Block
-  lengthThen n = position >>= λ there. any «ext_block_level» (fixed (unsigned 8)) >>= bodyThen there n
+  abbrev lengthThen : ℤ → Syntax Name Item
+  lengthThen n = any «ext_block_level» (fixed (unsigned 8)) >>= bodyThen n
 
   length-ordered : (n : ℤ) (at : ℕ) (s : List Bool) → read (lengthThen n) at s ≡ read (afterLength start n) at s
-  length-ordered n =
-      then-same position (λ there. any «ext_block_level» (fixed (unsigned 8)) >>= bodyThen there n) (λ there. any «ext_block_level» (fixed (unsigned 8)) >>= body start there n)
-      (λ there. then-same (any «ext_block_level» (fixed (unsigned 8))) (bodyThen there n) (body start there n) (body-ordered there n))
+  length-ordered n = then-same (any «ext_block_level» (fixed (unsigned 8))) (bodyThen n) (body start n) (body-ordered n)
 
 here-block : (at : ℕ) (s : List Bool) → read block at s ≡ read (any «ext_block_length» variable >>= lengthThen at) at s
 unfolding read _>>=_ wholeBlock block
 here-block at s = refl
 
 -- a block as its functions read it
-abbrev blockFrom : ℕ → Syntax Name Block
+abbrev blockFrom : ℕ → Syntax Name Item
 blockFrom start = any «ext_block_length» variable >>= afterLength start
 
 block-ordered : (at : ℕ) (s : List Bool) → read block at s ≡ read (blockFrom at) at s
@@ -202,14 +241,14 @@ block-ordered at s = here-block at s ∙ then-same (any «ext_block_length» var
 takes-block : (start : ℕ) → Takes blockBits (blockFrom start)
 takes-block start = takes-element (8 + contentBits) (2 * mostZeros + 1) «ext_block_length» variable (afterLength start) variable-width (takes-after-length start)
 
-pub accepted-few : (at : ℕ) (s : List Bool) (b : Block) (n : ℕ) → read block at s ≡ ok b n → n ≤ blockBits
-accepted-few at s b n e = takes-few blockBits (blockFrom at) (takes-block at) at s b n (sym (block-ordered at s) ∙ e)
+pub accepted-few : (at : ℕ) (s : List Bool) (i : Item) (n : ℕ) → read block at s ≡ ok i n → n ≤ blockBits
+accepted-few at s i n e = takes-few blockBits (blockFrom at) (takes-block at) at s i n (sym (block-ordered at s) ∙ e)
 
--- and is one
-pub accepted-is-block : (at : ℕ) (s : List Bool) (b : Block) (n : ℕ) → read block at s ≡ ok b n → isBlock b ≡ true
-accepted-is-block at s b n e =
-    let m : Means block at s (ok b n) = rw e at (every-answer-is-true block at s) in
-    valid-is-block b (block-only at (m .0) b (m .1) .0)
+-- and fits
+pub accepted-fits : (at : ℕ) (s : List Bool) (i : Item) (n : ℕ) → read block at s ≡ ok i n → itemFits i ≡ true
+accepted-fits at s i n e =
+    let m : Means block at s (ok i n) = rw e at (every-answer-is-true block at s) in
+    block-only at (m .0) i (m .1) .0
 
 -- ---- what reading each part comes to
 
@@ -218,18 +257,14 @@ map-then : {A B C : Type 0} (h : A → B) (o : Out Name A) (k : B → Reader Nam
 map-then h (ok a n) k at s = refl
 map-then h (no f) k at s = refl
 
-pub read-closing : (start l : ℕ) (b : Block) (at : ℕ) (s : List Bool) → read (afterFields start l b) at s ≡ andThen (read (zeroBits «ext_dm_alignment_zero_bit» (padding l)) at s) (λ z. read (ordered start b)) at s
-read-closing start l b at s = read-then (zeroBits «ext_dm_alignment_zero_bit» (padding l)) (λ z. ordered start b) at s
+pub read-closing : (start l : ℕ) (b : Block) (at : ℕ) (s : List Bool) → read (afterFields start l b) at s ≡ andThen (read (zeroBits «ext_dm_alignment_zero_bit» (padding l)) at s) (λ z. read (ordered start (kept b))) at s
+read-closing start l b at s = read-then (zeroBits «ext_dm_alignment_zero_bit» (padding l)) (λ z. ordered start (kept b)) at s
 
 pub read-fields : (start l at : ℕ) (s : List Bool) → read (contentFrom start l) at s ≡ andThen (mapped (blockOf l) (read (row (fieldsOf l)) at s)) (λ b. read (afterFields start l b)) at s
 read-fields start l at s = read-then (row (fieldsOf l)) (λ zs. afterFields start l (blockOf l zs)) at s ∙ sym (map-then (blockOf l) (read (row (fieldsOf l)) at s) (λ b. read (afterFields start l b)) at s)
 
-here-level : (start : ℕ) (n : ℤ) (at : ℕ) (s : List Bool) → read (afterLength start n) at s ≡ read (any «ext_block_level» (fixed (unsigned 8)) >>= body start at n) at s
-unfolding read _>>=_
-here-level start n at s = refl
-
-pub read-level : (start : ℕ) (n : ℤ) (at : ℕ) (s : List Bool) → read (afterLength start n) at s ≡ andThen (u «ext_block_level» 8 at s) (λ l. read (body start at n (pos l))) at s
-read-level start n at s = here-level start n at s ∙ read-any «ext_block_level» (fixed (unsigned 8)) (body start at n) at s ∙ map-then pos (u «ext_block_level» 8 at s) (λ l. read (body start at n l)) at s
+pub read-level : (start : ℕ) (n : ℤ) (at : ℕ) (s : List Bool) → read (afterLength start n) at s ≡ andThen (u «ext_block_level» 8 at s) (λ l. read (body start n (pos l))) at s
+read-level start n at s = read-any «ext_block_level» (fixed (unsigned 8)) (body start n) at s ∙ map-then pos (u «ext_block_level» 8 at s) (λ l. read (body start n l)) at s
 
 pub read-length : (at : ℕ) (s : List Bool) → read block at s ≡ andThen (ue «ext_block_length» mostZeros at s) (λ n. read (afterLength at (pos n))) at s
 read-length at s = block-ordered at s ∙ read-any «ext_block_length» variable (afterLength at) at s ∙ map-then pos (ue «ext_block_length» mostZeros at s) (λ n. read (afterLength at n)) at s
@@ -237,49 +272,89 @@ read-length at s = block-ordered at s ∙ read-any «ext_block_length» variable
 -- ---- answers
 
 -- behind bits that are taken already
-shifted : (n : ℕ) (o : Out Name Block) → stepBehind n (stepOf o) ≡ stepOf (widened n o)
-shifted n (ok b m) = refl
+shifted : (n : ℕ) (o : Out Name Item) → partBehind n (partOf o) ≡ partOf (widened n o)
+shifted n (ok (kept b) m) = refl
+shifted n (ok (passed l k zs) m) = refl
 shifted n (no r) = refl
+
+-- what an answer says of the reading that it is of
+pub part-kept : (o : Out Name Item) (b : Block) (n : ℕ) → Kept b n ≡ partOf o → o ≡ ok (kept b) n
+part-kept (ok (kept a) m) b n e = cc
+part-kept (ok (passed l k zs) m) b n e = let z : _≡_ {A = ℕ} 0 1 = cc in clash z
+part-kept (no f) b n e = let z : _≡_ {A = ℕ} 0 1 = cc in clash z
+
+pub part-passed : (o : Out Name Item) (n : ℕ) → Passed n ≡ partOf o → (l k : ℕ) × (zs : List ℤ) × (o ≡ ok (passed l k zs) n)
+part-passed (ok (kept a) m) n e = let z : _≡_ {A = ℕ} 0 1 = cc in clash z
+part-passed (ok (passed l k zs) m) n e = (l, k, zs, cc)
+part-passed (no f) n e = let z : _≡_ {A = ℕ} 0 1 = cc in clash z
+
+pub part-no : (o : Out Name Item) (r : Refusal) → Refused r ≡ partOf o → (f : Fault Name) × (o ≡ no f) × (r ≡ refusal (numberIn f))
+part-no (ok (kept a) m) r e = let z : _≡_ {A = ℕ} 0 1 = cc in clash z
+part-no (ok (passed l k zs) m) r e = let z : _≡_ {A = ℕ} 0 1 = cc in clash z
+part-no (no f) r e = (f, refl, cc)
 
 -- the answer of a table whose first part gave o, and whose second goes on from the position where that ended: a refusal of the first;
 -- else a refusal or an answer of the second
-module _ {A : Type 0} (t : Syntax Name Block) (o : Out Name A) (g : A → Syntax Name Block) (at : ℕ) (bits : List Bool)
+module _ {A : Type 0} (t : Syntax Name Item) (o : Out Name A) (g : A → Syntax Name Item) (at : ℕ) (bits : List Bool)
     (q : read t at (drop at bits) ≡ andThen o (λ a. read (g a)) at (drop at bits)) where
-  pub first-no : (r : Refusal) → (f : Fault Name) × (o ≡ no f) × (r ≡ refusal (numberIn f)) → Refused r ≡ stepOf (read t at (drop at bits))
-  first-no r (f, e, x) = sym (ap stepOf q ∙ rw (e, x) refl)
+  pub first-no : (r : Refusal) → (f : Fault Name) × (o ≡ no f) × (r ≡ refusal (numberIn f)) → Refused r ≡ partOf (read t at (drop at bits))
+  first-no r (f, e, x) = sym (ap partOf q ∙ rw (e, x) refl)
 
-  pub second-on : (a : A) (n : ℕ) → o ≡ ok a n → stepBehind n (stepOf (read (g a) (at + n) (drop (at + n) bits))) ≡ stepOf (read t at (drop at bits))
-  second-on a n e = shifted n (read (g a) (at + n) (drop (at + n) bits)) ∙ sym (ap stepOf q ∙ rw (e, drop-drop n at bits) refl)
+  pub second-on : (a : A) (n : ℕ) → o ≡ ok a n → partBehind n (partOf (read (g a) (at + n) (drop (at + n) bits))) ≡ partOf (read t at (drop at bits))
+  second-on a n e = shifted n (read (g a) (at + n) (drop (at + n) bits)) ∙ sym (ap partOf q ∙ rw (e, drop-drop n at bits) refl)
 
 -- behind the zero bits
 module _ (start l : ℕ) (b : Block) (at : ℕ) (bits : List Bool) (n : ℕ) (e : read (zeroBits «ext_dm_alignment_zero_bit» (padding l)) at (drop at bits) ≡ ok tt n) where
-  closing : stepBehind n (stepOf (read (ordered start b) (at + n) (drop (at + n) bits))) ≡ stepOf (read (afterFields start l b) at (drop at bits))
-  closing = second-on (afterFields start l b) (read (zeroBits «ext_dm_alignment_zero_bit» (padding l)) at (drop at bits)) (λ z. ordered start b) at bits (read-closing start l b at (drop at bits)) tt n e
+  closing : partBehind n (partOf (read (ordered start (kept b)) (at + n) (drop (at + n) bits))) ≡ partOf (read (afterFields start l b) at (drop at bits))
+  closing = second-on (afterFields start l b) (read (zeroBits «ext_dm_alignment_zero_bit» (padding l)) at (drop at bits)) (λ z. ordered start (kept b)) at bits (read-closing start l b at (drop at bits)) tt n e
 
-  pub in-order : inOrder b ≡ true → Is b n ≡ stepOf (read (afterFields start l b) at (drop at bits))
+  pub in-order : inOrder b ≡ true → Kept b n ≡ partOf (read (afterFields start l b) at (drop at bits))
   unfolding read
   in-order h =
-      let o : read (ordered start b) (at + n) (drop (at + n) bits) ≡ ok b 0 = read-in-order (λ o. done b) (at + n) (drop (at + n) bits) start b h in
-      ap (Is b) (sym (add-zero n)) ∙ ap (λ (x : Out Name Block). stepBehind n (stepOf x)) (sym o) ∙ closing
+      let o : read (ordered start (kept b)) (at + n) (drop (at + n) bits) ≡ ok (kept b) 0 = read-in-order (λ o. done (kept b)) (at + n) (drop (at + n) bits) start b h in
+      ap (Kept b) (sym (add-zero n)) ∙ ap (λ (x : Out Name Item). partBehind n (partOf x)) (sym o) ∙ closing
 
-  pub out-of-order : inOrder b ≡ false → refusedStep notInOrder ≡ stepOf (read (afterFields start l b) at (drop at bits))
+  pub out-of-order : inOrder b ≡ false → refusedPart notInOrder ≡ partOf (read (afterFields start l b) at (drop at bits))
   out-of-order h =
-      let o = read-not-in-order (λ o. done b) (at + n) (drop (at + n) bits) start b h in
-      ap refusedStep (sym (o .1)) ∙ ap (λ (x : Out Name Block). stepBehind n (stepOf x)) (sym (o .2)) ∙ closing
+      let o = read-not-in-order (λ o. done (kept b)) (at + n) (drop (at + n) bits) start b h in
+      ap refusedPart (sym (o .1)) ∙ ap (λ (x : Out Name Item). partBehind n (partOf x)) (sym (o .2)) ∙ closing
 
--- the body: 8 before 9
-module _ (start there n l at : ℕ) (s : List Bool) where
-  abbrev own : Unit {0} → Syntax Name Block
-  own z = must (lengthRule start (pos n) l) >>= λ own. contentFrom start l
+-- the body: 9 before the content
+module _ (start n l at : ℕ) (s : List Bool) where
+  abbrev rest : Unit {0} → Syntax Name Item
+  rest own = either start l n
 
-  pub body-unknown : known l ≡ false → refusedStep unknownLevel ≡ stepOf (read (body start there (pos n) (pos l)) at s)
-  body-unknown h = sym (ap stepOf (read-known own at s there l) ∙ rw h refl)
+  known-body : known l ≡ true → read (body start (pos n) (pos l)) at s ≡ cond (eqb n (level l .bytes)) (read (contentFrom start l) at s) (no (breaks (lengthRule start (pos n) l)))
+  known-body h = read-own-length rest at s start n l h ∙ ap (λ (t : Bool). cond (eqb n (level l .bytes)) (read (cond t (contentFrom start l) (reservedContent l n)) at s) (no (breaks (lengthRule start (pos n) l)))) h
 
-  known-body : known l ≡ true → read (body start there (pos n) (pos l)) at s ≡ cond (eqb n (level l .bytes)) (read (contentFrom start l) at s) (no (breaks (lengthRule start (pos n) l)))
-  known-body h = read-known own at s there l ∙ ap (λ (b : Bool). cond b (read (own tt) at s) (no (breaks (knownRule there (pos l))))) h ∙ read-own-length (λ z. contentFrom start l) at s start n l
+  pub body-length : known l ≡ true → (n ≡ level l .bytes → ⊥) → refusedPart wrongLength ≡ partOf (read (body start (pos n) (pos l)) at s)
+  body-length h k = sym (ap partOf (known-body h) ∙ rw (ne-eqb n (level l .bytes) k) refl)
 
-  pub body-length : known l ≡ true → (n ≡ level l .bytes → ⊥) → refusedStep wrongLength ≡ stepOf (read (body start there (pos n) (pos l)) at s)
-  body-length h k = sym (ap stepOf (known-body h) ∙ rw (ne-eqb n (level l .bytes) k) refl)
+  pub body-is : known l ≡ true → n ≡ level l .bytes → partOf (read (contentFrom start l) at s) ≡ partOf (read (body start (pos n) (pos l)) at s)
+  body-is h k = sym (ap partOf (known-body h) ∙ rw (eq-eqb n (level l .bytes) k) refl)
 
-  pub body-is : known l ≡ true → n ≡ level l .bytes → stepOf (read (contentFrom start l) at s) ≡ stepOf (read (body start there (pos n) (pos l)) at s)
-  body-is h k = sym (ap stepOf (known-body h) ∙ rw (eq-eqb n (level l .bytes) k) refl)
+  reserved-body : known l ≡ false → read (body start (pos n) (pos l)) at s ≡ cond (leb n mostReserved) (read (reservedContent l n) at s) (no (breaks (lengthRule start (pos n) l)))
+  reserved-body h = read-reserved-length rest at s start n l h ∙ ap (λ (t : Bool). cond (leb n mostReserved) (read (cond t (contentFrom start l) (reservedContent l n)) at s) (no (breaks (lengthRule start (pos n) l)))) h
+
+  pub body-too-long : known l ≡ false → mostReserved < n → refusedPart wrongLength ≡ partOf (read (body start (pos n) (pos l)) at s)
+  body-too-long h k = sym (ap partOf (reserved-body h) ∙ rw (lt-leb n mostReserved k) refl)
+
+  pub body-reserved : known l ≡ false → n ≤ mostReserved → partOf (read (reservedContent l n) at s) ≡ partOf (read (body start (pos n) (pos l)) at s)
+  body-reserved h k = sym (ap partOf (reserved-body h) ∙ rw (le-leb n mostReserved k) refl)
+
+-- ---- passing over
+
+-- the bits of a reserved block are all there, or the first that is not stands at the end
+module _ (l n at : ℕ) (s : List ℕ) where
+  reserved-read : read (reservedContent l n) at (drop at (bitsOf s)) ≡ mapped (passed l n) (read (row (reservedBits n)) at (drop at (bitsOf s)))
+  unfolding reservedContent
+  reserved-read = then-done (row (reservedBits n)) (passed l n) at (drop at (bitsOf s))
+
+  pub passed-over : at + 8 * n ≤ 8 * length s → Passed (8 * n) ≡ partOf (read (reservedContent l n) at (drop at (bitsOf s)))
+  passed-over h = go (bits-there «ext_dm_alignment_zero_bit» (8 * n) at (drop at (bitsOf s)) (omega (arith, length-rest s at)))
+    where
+      go : (zs : List ℤ) × (read (row (reservedBits n)) at (drop at (bitsOf s)) ≡ ok zs (8 * n)) → Passed (8 * n) ≡ partOf (read (reservedContent l n) at (drop at (bitsOf s)))
+      go (zs, e) = sym (ap partOf (reserved-read ∙ ap (mapped (passed l n)) e))
+
+  pub cut-short : at ≤ 8 * length s → 8 * length s < at + 8 * n → refusedPart pastEnd ≡ partOf (read (reservedContent l n) at (drop at (bitsOf s)))
+  cut-short b h = sym (ap partOf (reserved-read ∙ ap (mapped (passed l n)) (bits-short «ext_dm_alignment_zero_bit» (8 * n) at (drop at (bitsOf s)) (omega (arith, length-rest s at)))))

@@ -4,23 +4,41 @@ use fields::Step;
 use record::Block;
 use refusals::Refusal;
 ghost use mathlib.Core.Path.{_≡_};
-ghost use Prim.Native.Nat.{ℕ, _+_, _<_, _^_};
+ghost use Prim.Native.Nat.{ℕ, _+_, _*_, _<_, _≤_, _^_};
 ghost use lib.IntN.{pos};
 ghost use lib.ListN.{length, drop};
 ghost use Rattle.tree.specs.Bits.{bitsOf};
 ghost use Rattle.tree.specs.Syntax.{read};
-ghost use Rattle.syntax.specs.Data.{block};
-ghost use Rattle.fields.specs.Step.{stepOf};
-ghost use Rattle.block.specs.Parts.{stepBehind, stepTook, afterFields, contentFrom, body, afterLength};
+ghost use Rattle.syntax.specs.Data.{mostReserved, reservedContent, block};
+ghost use Rattle.block.specs.Parts.{partOf, refusedPart, partBehind, partTook, afterFields, contentFrom, body, afterLength};
+
+// 02, b: a block of a reserved level has at most so many bytes.
+const MOST_RESERVED: u32 = 1023;
+
+// A block of a known level, which is kept, or one of a reserved level, which is passed over, and how many bits it took; or why there is none.
+pub enum Part {
+    Kept { block: Block, width: usize },
+    Passed { width: usize },
+    Refused { why: Refusal },
+}
+
+fn refuse(number: u8) -> Part
+    ensures { λ r. ⌜ r ≡ refusedPart number ⌝ }
+{
+    Part::Refused {
+        why: Refusal { number },
+    }
+}
 
 // An answer, behind n bits that are taken already.
-fn behind(n: usize, rest: Step) -> Step
-    requires { ⌜ n + stepTook rest < 2 ^ 64 ⌝ }
-    ensures { λ r. ⌜ r ≡ stepBehind n rest ⌝ }
+fn behind(n: usize, rest: Part) -> Part
+    requires { ⌜ n + partTook rest < 2 ^ 64 ⌝ }
+    ensures { λ r. ⌜ r ≡ partBehind n rest ⌝ }
 {
     match rest {
-        Step::Refused { why } => Step::Refused { why },
-        Step::Is { block, width } => Step::Is {
+        Part::Refused { why } => Part::Refused { why },
+        Part::Passed { width } => Part::Passed { width: n + width },
+        Part::Kept { block, width } => Part::Kept {
             block,
             width: n + width,
         },
@@ -28,36 +46,49 @@ fn behind(n: usize, rest: Step) -> Step
 }
 
 // What follows the fields of a block, wherever it began: its level's zero bits, then the order of level 1.
-fn after_fields(s: &[u8], at: usize, level: u8, block: Block) -> Step
-    ensures { λ r. ⌜ ((start : ℕ) → r ≡ stepOf (read (afterFields start level block) at (drop at (bitsOf (now (s .entry)))))) ⌝ }
+fn after_fields(s: &[u8], at: usize, level: u8, block: Block) -> Part
+    ensures { λ r. ⌜ ((start : ℕ) → r ≡ partOf (read (afterFields start level block) at (drop at (bitsOf (now (s .entry)))))) ⌝ }
 {
     match bits::read_zeros(s, at, record::padding_of(level) as usize) {
-        Number::Refused { why } => Step::Refused { why },
+        Number::Refused { why } => Part::Refused { why },
         Number::Is { width, .. } => {
             if record::in_order(block) {
-                Step::Is { block, width }
+                Part::Kept { block, width }
             } else {
-                fields::refuse(Refusal::NOT_IN_ORDER)
+                refuse(Refusal::NOT_IN_ORDER)
             }
         }
     }
 }
 
 // The fields of a level and what follows them, wherever the block began.
-fn read_content(s: &[u8], at: usize, level: u8) -> Step
+fn read_content(s: &[u8], at: usize, level: u8) -> Part
     requires { ⌜ at < 2 ^ 60 ⌝ }
-    ensures { λ r. ⌜ ((start : ℕ) → r ≡ stepOf (read (contentFrom start level) at (drop at (bitsOf (now (s .entry)))))) ⌝ }
+    ensures { λ r. ⌜ ((start : ℕ) → r ≡ partOf (read (contentFrom start level) at (drop at (bitsOf (now (s .entry)))))) ⌝ }
 {
     match fields::fields_of(s, at, level) {
-        Step::Refused { why } => Step::Refused { why },
+        Step::Refused { why } => Part::Refused { why },
         Step::Is { block: b, width: n } => behind(n, after_fields(s, at + n, level, b)),
     }
 }
 
-// What follows a block's length and level, wherever they began. 01, Refusal numbers: 8 before 9, and both before a field is read.
-fn read_body(s: &[u8], at: usize, size: u32, level: u8) -> Step
-    requires { ⌜ at < 2 ^ 60 ⌝ }
-    ensures { λ r. ⌜ ((start there : ℕ) → r ≡ stepOf (read (body start there (pos size) (pos level)) at (drop at (bitsOf (now (s .entry)))))) ⌝ }
+// The content of a reserved block, of any level, whose length is `size` bytes: it is passed over, and the slice's length is looked at
+// once, for 8 * size bits from `at` on lie in its first (at + 8 * size + 7) / 8 bytes.
+fn skip(s: &[u8], at: usize, size: u32) -> Part
+    requires { ⌜ (at < 2 ^ 60) × (at ≤ 8 * length (now s)) × (size ≤ mostReserved) ⌝ }
+    ensures { λ r. ⌜ ((level : ℕ) → r ≡ partOf (read (reservedContent level size) at (drop at (bitsOf (now (s .entry)))))) ⌝ }
+{
+    let bits = 8 * size as usize;
+    if s.len() < (at + bits + 7) / 8 {
+        return refuse(Refusal::PAST_END);
+    }
+    Part::Passed { width: bits }
+}
+
+// What follows a block's length and level, wherever they began. 01, Refusal numbers: 9 before anything of the content is read.
+fn read_body(s: &[u8], at: usize, size: u32, level: u8) -> Part
+    requires { ⌜ (at < 2 ^ 60) × (at ≤ 8 * length (now s)) ⌝ }
+    ensures { λ r. ⌜ ((start : ℕ) → r ≡ partOf (read (body start (pos size) (pos level)) at (drop at (bitsOf (now (s .entry)))))) ⌝ }
 {
     let known = record::is_known(level);
     let bytes = record::bytes_of(level) as u32;
@@ -65,20 +96,24 @@ fn read_body(s: &[u8], at: usize, size: u32, level: u8) -> Step
         if size == bytes {
             read_content(s, at, level)
         } else {
-            fields::refuse(Refusal::WRONG_LENGTH)
+            refuse(Refusal::WRONG_LENGTH)
         }
     } else {
-        fields::refuse(Refusal::UNKNOWN_LEVEL)
+        if size <= MOST_RESERVED {
+            skip(s, at, size)
+        } else {
+            refuse(Refusal::WRONG_LENGTH)
+        }
     }
 }
 
 // What follows a block's length, wherever it began: its level, and the rest.
-fn after_length(s: &[u8], at: usize, size: u32) -> Step
+fn after_length(s: &[u8], at: usize, size: u32) -> Part
     requires { ⌜ at < 2 ^ 59 ⌝ }
-    ensures { λ r. ⌜ ((start : ℕ) → r ≡ stepOf (read (afterLength start (pos size)) at (drop at (bitsOf (now (s .entry)))))) ⌝ }
+    ensures { λ r. ⌜ ((start : ℕ) → r ≡ partOf (read (afterLength start (pos size)) at (drop at (bitsOf (now (s .entry)))))) ⌝ }
 {
     match bits::read_u(s, at, 8) {
-        Number::Refused { why } => Step::Refused { why },
+        Number::Refused { why } => Part::Refused { why },
         Number::Is {
             value: level,
             width: n,
@@ -87,12 +122,12 @@ fn after_length(s: &[u8], at: usize, size: u32) -> Step
 }
 
 // One ext_dm_data_block: its length, and what follows it.
-pub fn read_block(s: &[u8], at: usize) -> Step
+pub fn read_block(s: &[u8], at: usize) -> Part
     requires { ⌜ at < 2 ^ 58 ⌝ }
-    ensures { λ r. ⌜ r ≡ stepOf (read block at (drop at (bitsOf (now (s .entry))))) ⌝ }
+    ensures { λ r. ⌜ r ≡ partOf (read block at (drop at (bitsOf (now (s .entry))))) ⌝ }
 {
     match bits::read_ue(s, at, bits::MOST_ZEROS) {
-        Number::Refused { why } => Step::Refused { why },
+        Number::Refused { why } => Part::Refused { why },
         Number::Is {
             value: size,
             width: n,

@@ -28,8 +28,7 @@ use Rattle.bits.specs.declared.Number.the-variants.{Is as IsNumber, Refused as 
 use Rattle.bits.specs.Answer.{nameless, numberOf, spanOf}
 use Rattle.bits.proofs.Reading.{is-ok, is-no, spans-ok, spans-no, named-u, named-ue, named-zeros}
 use Rattle.record.specs.Name.{Name, «app_version», «metadata_refresh_flag», «num_ext_blocks», «dm_alignment_zero_bit»}
-use Rattle.record.specs.Blocks.{mostBlocks}
-use Rattle.syntax.specs.Data.{Head, announced, blockCount, head, firstAlignment}
+use Rattle.syntax.specs.Data.{mostAnnounced, Head, announced, blockCount, head, firstAlignment}
 use Rattle.syntax.specs.Element.{headElements, openElements}
 use Rattle.syntax.proofs.Exact.{Announced, head-only, firstGap, first-only, opens-with}
 use Rattle.syntax.proofs.Largest.{widths-head, widths-open}
@@ -86,7 +85,7 @@ took-few k p b at s = go (read p at s) (every-answer-is-true p at s)
 pub brief-count : Brief longest blockCount
 unfolding blockCount sumOfWidths
 brief-count at es h k =
-    let m = ranged-only «num_ext_blocks» variable tooManyBlocks (pos 0) (pos mostBlocks) (λ n. done (announced true (natural n))) at es h k in
+    let m = ranged-only «num_ext_blocks» variable tooManyBlocks (pos 0) (pos mostAnnounced) (λ n. done (announced true (natural n))) at es h k in
     let d = done-only (announced true (natural (m .0))) h (at + widthIn variable (m .0)) (m .1) (m .5) in
     omega (arith, ap sumOfWidths (m .2), variable-width (m .0) (m .3), ap sumOfWidths (d .0))
 
@@ -107,13 +106,14 @@ brief-version at es h k =
     omega (arith, ap sumOfWidths (m .2), variable-width (m .0) (m .3), brief-flag (at + widthIn variable (m .0)) (m .1) h (m .5))
 
 -- the head as far as num_ext_blocks
-pub head-short : (s : List Bool) (h : Head) (n : ℕ) → read head 0 s ≡ ok h n → n ≤ 14
+pub head-short : (s : List Bool) (h : Head) (n : ℕ) → read head 0 s ≡ ok h n → n ≤ 20
 head-short s h n e =
     let m : Means head 0 s (ok h n) = rw e at (every-answer-is-true head 0 s) in
     let k = head-only 0 (m .0) h (m .1) in
-    omega (arith, m .3, ap sumOfWidths (k .1), widths-head (h .refresh) (h .count) (k .0 .few))
+    let few = k .0 .few in
+    omega (arith, m .3, ap sumOfWidths (k .1), widths-head (h .refresh) (h .count) 7 (omega arith))
 
--- and all that stands before the blocks: at most 18 are announced
+-- and all that stands before the blocks: at most 254 are announced
 pub open-only : (es : List (Element Name)) (h : Head) → Follow opening 0 es (complete h) → Announced h × (es ≡ openElements (h .refresh) (h .count))
 unfolding opening alignedHead
 open-only es h k =
@@ -134,11 +134,12 @@ open-only es h k =
         joined es f1 s1 f (firstGap (eqb (g .count) 0) (sumOfWidths f)) e1 q1 (alone s1 f2 s2 (firstGap (eqb (g .count) 0) (sumOfWidths f)) e2 e3 r)
         ∙ sym (opens-with (g .refresh) (g .count))
 
-pub opening-few : (s : List Bool) (h : Head) (n : ℕ) → read opening 0 s ≡ ok h n → (h .count ≤ mostBlocks) × (n ≤ 16)
+pub opening-few : (s : List Bool) (h : Head) (n : ℕ) → read opening 0 s ≡ ok h n → (h .count ≤ mostAnnounced) × (n ≤ 24)
 opening-few s h n e =
     let m : Means opening 0 s (ok h n) = rw e at (every-answer-is-true opening 0 s) in
     let k = open-only (m .0) h (m .1) in
-    (k .0 .few, omega (arith, m .3, ap sumOfWidths (k .1), widths-open (h .refresh) (h .count) (k .0 .few)))
+    let few = k .0 .few in
+    (few, omega (arith, m .3, ap sumOfWidths (k .1), widths-open (h .refresh) (h .count) 7 3 (omega arith) (omega arith)))
 
 -- zero bits are as many as are asked for
 pub zeros-took : (name : Name) (k at : ℕ) (s : List Bool) (n : ℕ) → read (zeroBits name k) at s ≡ ok tt n → n ≡ k
@@ -211,19 +212,19 @@ module _ (at : ℕ) (s : List Bool) where
   unfolding blockCount
   count-no r e =
       let f = is-no (ue «num_ext_blocks» mostZeros at s) r (e ∙ named-ue «num_ext_blocks» at s mostZeros) in
-      by-number r (f .0) (read blockCount at s) (f .2) (ranged-no «num_ext_blocks» tooManyBlocks (pos 0) (pos mostBlocks) (λ n. done (announced true (natural n))) at s (f .0) (f .1))
+      by-number r (f .0) (read blockCount at s) (f .2) (ranged-no «num_ext_blocks» tooManyBlocks (pos 0) (pos mostAnnounced) (λ n. done (announced true (natural n))) at s (f .0) (f .1))
 
   module _ (v n : ℕ) (e : IsNumber v n ≡ numberOf (ue nameless mostZeros at s)) where
     count : ue «num_ext_blocks» mostZeros at s ≡ ok v n
     count = is-ok (ue «num_ext_blocks» mostZeros at s) v n (e ∙ named-ue «num_ext_blocks» at s mostZeros)
 
-    pub count-is : v ≤ mostBlocks → Is true v n ≡ openingOf (read blockCount at s)
+    pub count-is : v ≤ mostAnnounced → Is true v n ≡ openingOf (read blockCount at s)
     unfolding blockCount read
-    count-is h = sym (ap openingOf (read-ranged «num_ext_blocks» variable tooManyBlocks (pos 0) (pos mostBlocks) (λ m. done (announced true (natural m))) at s) ∙ rw (count, le-leb 0 v (omega arith), le-leb v mostBlocks h, add-zero n) refl)
+    count-is h = sym (ap openingOf (read-ranged «num_ext_blocks» variable tooManyBlocks (pos 0) (pos mostAnnounced) (λ m. done (announced true (natural m))) at s) ∙ rw (count, le-leb 0 v (omega arith), le-leb v mostAnnounced h, add-zero n) refl)
 
-    pub count-many : mostBlocks < v → Refused (refusal tooManyBlocks) ≡ openingOf (read blockCount at s)
+    pub count-many : mostAnnounced < v → Refused (refusal tooManyBlocks) ≡ openingOf (read blockCount at s)
     unfolding blockCount
-    count-many h = sym (ap openingOf (read-ranged «num_ext_blocks» variable tooManyBlocks (pos 0) (pos mostBlocks) (λ m. done (announced true (natural m))) at s) ∙ rw (count, le-leb 0 v (omega arith), lt-leb v mostBlocks h) refl)
+    count-many h = sym (ap openingOf (read-ranged «num_ext_blocks» variable tooManyBlocks (pos 0) (pos mostAnnounced) (λ m. done (announced true (natural m))) at s) ∙ rw (count, le-leb 0 v (omega arith), lt-leb v mostAnnounced h) refl)
 
 -- ---- zero bits to the next byte boundary
 

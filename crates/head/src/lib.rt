@@ -1,6 +1,5 @@
 // Reads what stands before the blocks of ST2094-10_data: table E.1.1 of A/341 as far as num_ext_blocks, and the zero bits behind it.
 use bits::Number;
-use record::Record;
 use refusals::Refusal;
 ghost use mathlib.Core.Path.{_≡_};
 ghost use mathlib.Core.Bool.{cond};
@@ -17,8 +16,8 @@ const IDENTIFIER: u32 = 1;
 
 const VERSION: u32 = 0;
 
-// Ours: at most 18 blocks in all.
-const MOST_BLOCKS: u32 = Record::BLOCKS as u32;
+// 02, b: up to 254 blocks may be announced.
+const MOST_ANNOUNCED: u32 = 254;
 
 // What stands before the blocks and how many bits it took, or why there is none.
 pub enum Opening {
@@ -66,7 +65,7 @@ fn read_count(s: &[u8], at: usize) -> Opening
     match bits::read_ue(s, at, bits::MOST_ZEROS) {
         Number::Refused { why } => Opening::Refused { why },
         Number::Is { value: n, width } => {
-            if n <= MOST_BLOCKS {
+            if n <= MOST_ANNOUNCED {
                 Opening::Is {
                     refresh: true,
                     count: n as u8,

@@ -1,4 +1,5 @@
--- A listing tells the reading: two readings that the reader gives have one listing only if they are the same.
+-- A listing tells the reading, but for the number of blocks passed over, which has no line: two readings that the reader gives have one
+-- listing only if they have one result, one record and one number of bits read.
 use Prim.Native.Nat.{ℕ, _+_}
 use mathlib.Core.Path.{_≡_, refl, ap, sym, _∙_}
 use mathlib.Core.List.{List, [], _∷_, _++_, map}
@@ -15,7 +16,7 @@ use Rattle.tree.specs.Coding.{natural}
 use Rattle.text.specs.Text.{ascii, Line}
 use Rattle.text.specs.Told.{without, plainKeys}
 use Rattle.text.proofs.Different.{one-text}
-use Rattle.record.specs.Blocks.{blocks, emptyRecord}
+use Rattle.record.specs.Blocks.{blocks}
 use Rattle.record.specs.declared.Block.{Block}
 use Rattle.record.specs.declared.Block.the-variants.{Nothing, Level1, Level2, Level5}
 use Rattle.record.specs.declared.Record.{Record}
@@ -24,10 +25,11 @@ use Rattle.record.specs.Name.{Name}
 use Rattle.valid.specs.Valid.{Proper}
 use Rattle.valid.proofs.Clauses.{empty-is-valid}
 use Rattle.valid.proofs.Made.{valid-is-made}
-use Rattle.syntax.specs.Data.{blockOf, bareData}
-use Rattle.syntax.proofs.Exact.{accepted-is-the-one-payload}
+use Rattle.syntax.specs.Data.{blockOf, Data, recordFrom, bareData}
+use Rattle.syntax.proofs.Exact.{accepted-is-a-payload}
+use Rattle.syntax.proofs.Records.{the-record-is-valid}
 use Rattle.reader.specs.declared.Reading.{Reading}
-use Rattle.reader.specs.Reading.{readingOf}
+use Rattle.reader.specs.Reading.{refusedReading, readingOf}
 use Rattle.listing.specs.Listing.{fieldLines, blockLines, blocksLines, acceptedLines, refusedLines, lines, listing}
 
 -- the keys of a listing are plain
@@ -104,20 +106,26 @@ one-record r s p q e =
 -- what the reader gives: a record that is valid, or a refusal beside the empty record and no bits (01, The record)
 pub record Given (q : Reading) : Type 0 where
   pub accepted : q .result ≡ 0 → Proper (q .«record»)
-  pub refused : (q .result ≡ 0 → ⊥) → q ≡ record { result = q .result; bits = 0; «record» = emptyRecord }
+  pub refused : (q .result ≡ 0 → ⊥) → q ≡ refusedReading (q .result)
+
+-- two readings with all that a listing shows in common
+pub record ShownAlike (q p : Reading) : Type 0 where
+  pub result : q .result ≡ p .result
+  pub bits : q .bits ≡ p .bits
+  pub «record» : q .«record» ≡ p .«record»
 
 -- every valid record is given
 pub accepted-is-given : (q : Reading) → q .result ≡ 0 → Proper (q .«record») → Given q
 accepted-is-given q e p = record { accepted = λ z. p; refused = λ f. absurd (f e) }
 
--- an answer is given, if what it accepts is valid
-pub answer-is-given : (o : Out Name Record) → ((r : Record) (n : ℕ) → o ≡ ok r n → Proper r) → Given (readingOf o)
-answer-is-given (ok r n) h = accepted-is-given (readingOf (ok r n)) refl (h r n refl)
+-- an answer is given, if the record of what it accepts is valid
+pub answer-is-given : (o : Out Name Data) → ((d : Data) (n : ℕ) → o ≡ ok d n → Proper (recordFrom d)) → Given (readingOf o)
+answer-is-given (ok d n) h = accepted-is-given (readingOf (ok d n)) refl (h d n refl)
 answer-is-given (no q) h = record { accepted = λ e. record { places = refl; valid-record = empty-is-valid }; refused = λ f. refl }
 
 -- so is every answer to data
 pub data-is-given : (s : List ℕ) → Bytes s → Given (readingOf (bareData (bitsOf s)))
-data-is-given s h = answer-is-given (bareData (bitsOf s)) (λ r n e. accepted-is-the-one-payload s h r n e .0)
+data-is-given s h = answer-is-given (bareData (bitsOf s)) (λ d n e. the-record-is-valid d (accepted-is-a-payload s h d n e .0))
 
 -- the first line is the result's
 first-line : (q : Reading) → valueAt 0 (lines q) ≡ pos (q .result)
@@ -128,25 +136,27 @@ first-line q = go (eqb (q .result) 0) refl
     go false e = refl
 
 -- lines are those of one reading
-one-reading : (q p : Reading) → Given q → Given p → lines q ≡ lines p → q ≡ p
+one-reading : (q p : Reading) → Given q → Given p → lines q ≡ lines p → ShownAlike q p
 one-reading q p g h e = go (eqb (q .result) 0) refl
   where
     r : q .result ≡ p .result
     r = ap natural (sym (first-line q) ∙ ap (valueAt 0) e ∙ first-line p)
 
-    go : (t : Bool) → eqb (q .result) 0 ≡ t → q ≡ p
+    go : (t : Bool) → eqb (q .result) 0 ≡ t → ShownAlike q p
     go true z =
         let a = eqb-true (q .result) 0 z in
         let b = sym r ∙ a in
         let y : eqb (p .result) 0 ≡ true = eq-eqb (p .result) 0 b in
         let same : acceptedLines (q .«record») (q .bits) ≡ acceptedLines (p .«record») (p .bits) = rw (z, y) at e in
         let s = one-record (q .«record») (p .«record») (g .accepted a) (h .accepted b) same in
-        λ i. record { result = r i; bits = s .1 i; «record» = s .0 i }
+        record { result = r; bits = s .1; «record» = s .0 }
     go false z =
         let f = eqb-false (q .result) 0 z in
-        g .refused f ∙ rw r (sym (h .refused (λ b. f (r ∙ b))))
+        let x : q ≡ p = g .refused f ∙ rw r (sym (h .refused (λ b. f (r ∙ b)))) in
+        record { result = r; bits = ap (λ (y : Reading). y .bits) x; «record» = ap (λ (y : Reading). y .«record») x }
 
--- THE THEOREM. Two different readings that the reader gives, accepted or refused, have different listings.
-pub one-listing-one-reading : (q p : Reading) → Given q → Given p → listing q ≡ listing p → q ≡ p
+-- THE THEOREM. Two readings that the reader gives, accepted or refused, have different listings, unless they differ in nothing but the
+-- number of blocks passed over.
+pub one-listing-one-reading : (q p : Reading) → Given q → Given p → listing q ≡ listing p → ShownAlike q p
 unfolding listing
 one-listing-one-reading q p g h e = one-reading q p g h (one-text (lines q) (lines p) (plain-lines q) (plain-lines p) e)

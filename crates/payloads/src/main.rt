@@ -1,5 +1,5 @@
 // Reads every payload that document 01 gives, the ms_weight examples among them, bare and behind the wrapper, and prints for each its
-// name and its listing.
+// name and its listing. Two of them, 58 50 and 5A 81 80, have another outcome since request b.
 use reader::Reading;
 
 const OUT: i32 = libc::STDOUT_FILENO;

@@ -11,12 +11,12 @@ use lib.ListN.{length, take}
 use Rattle.refusals.specs.Refusals.{notValid, tooManyPoints, notATrack}
 use Rattle.tree.specs.Bits.{bitsOf, Bytes}
 use Rattle.tree.specs.Reading.{Out, ok, no}
-use Rattle.record.specs.declared.Record.{Record}
 use Rattle.record.specs.Name.{Name}
 use Rattle.record.specs.Blocks.{emptyRecord}
 use Rattle.valid.specs.Valid.{every, many, targets, allDiffer, valid}
-use Rattle.syntax.specs.Data.{bareData}
-use Rattle.syntax.proofs.Exact.{accepted-is-the-one-payload}
+use Rattle.syntax.specs.Data.{Data, recordFrom, bareData}
+use Rattle.syntax.proofs.Exact.{accepted-is-a-payload}
+use Rattle.syntax.proofs.Records.{the-record-is-valid}
 use Rattle.reader.specs.Reading.{readingOf, readBare}
 use Rattle.keyed.proofs.Mapped.{join-all}
 use Rattle.plan.specs.Limit.{mostPoints}
@@ -61,6 +61,6 @@ pub reading-is-named : (s : List ℕ) → Bytes s → readBare s .result ≡ 0 �
 unfolding valid every many targets allDiffer
 reading-is-named s h e = go (bareData (bitsOf s)) refl
   where
-    go : (o : Out Name Record) → bareData (bitsOf s) ≡ o → recordIn (flat (readingOf o .«record»)) ≡ readingOf o .«record»
-    go (ok r n) q = let p = accepted-is-the-one-payload s h r n q .0 in flat-names r (valid-is-typed r (p .places) (p .valid-record))
+    go : (o : Out Name Data) → bareData (bitsOf s) ≡ o → recordIn (flat (readingOf o .«record»)) ≡ readingOf o .«record»
+    go (ok d n) q = let p = the-record-is-valid d (accepted-is-a-payload s h d n q .0) in flat-names (recordFrom d) (valid-is-typed (recordFrom d) (p .places) (p .valid-record))
     go (no f) q = flat-names emptyRecord (valid-is-typed emptyRecord refl refl)

@@ -14,11 +14,13 @@ use Rattle.output.specs.declared.Written.{Written}
 use Rattle.output.specs.Output.{writtenAs, bufferAs, fits}
 use Rattle.record.specs.declared.Record.{Record}
 use Rattle.record.specs.Blocks.{mostBlocks}
+use Rattle.record.proofs.Laws.{and-both}
 use Rattle.valid.specs.Valid.{valid, Proper}
 use Rattle.syntax.specs.Element.{payload}
 use Rattle.syntax.specs.Wrapper.{wrappedPayload}
 use Rattle.syntax.proofs.Largest.{no-payload-is-longer, largest-length}
 use Rattle.reader.specs.declared.Reading.{Reading}
+use Rattle.reader.specs.Reading.{refusedReading}
 use Rattle.messages.proofs.Writing.{wrapped-length}
 use Rattle.sei.specs.SeiUnit.{unitBytes}
 use Rattle.sei.proofs.Functions.{most-unit-bytes}
@@ -39,7 +41,7 @@ use Rattle.flat.specs.Flat.{flat, flatLength, recordIn}
 use Rattle.flat.proofs.Named.{length-in}
 use Rattle.tables.specs.Table.{pointIn, tableIn}
 use Rattle.tables.proofs.Laws.{length-table, table-at}
-use Rattle.pimlasut.specs.Boundary.{ifSized, after, isRecord}
+use Rattle.pimlasut.specs.Boundary.{ifSized, after, isRecord, isFacts, factsOf, factsAfter, ifFit}
 
 -- ---- lengths, and what stays
 
@@ -88,14 +90,26 @@ whole-row l n e = take-all n l (omega arith)
 
 -- ---- reading
 
--- a reading, as it is given
-pub given-reading : (row : List ℤ) (bits : ℕ) {row′ : List ℤ} {bits′ n : ℕ} {q expected : Reading} → length row ≡ flatLength → q ≡ expected
-    → n ≡ q .result → row′ ≡ after n (flat (q .«record»)) row → bits′ ≡ after n (q .bits) bits
-    → (n ≡ ifSized (isRecord row) (expected .result)) × ((row′ ≡ after n (flat (expected .«record»)) row) × (bits′ ≡ after n (expected .bits) bits))
-given-reading row bits {n = n} {expected = expected} l e f g h = (
-  f ∙ ap (λ (q : Reading). q .result) e ∙ right (isRecord row) (expected .result) (eq-eqb (length row) flatLength l),
-  (g ∙ ap (λ (q : Reading). after n (flat (q .«record»)) row) e, h ∙ ap (λ (q : Reading). after n (q .bits) bits) e),
-)
+module _ (row : List ℤ) (old : List ℕ) (expected : Reading) where
+  abbrev sized : Bool
+  sized = isRecord row && isFacts old
+
+  -- one of the two rows has not its length: 13, and the facts are zeros or stay as they were
+  pub unfit-reading : {facts : List ℕ} → sized ≡ false → facts ≡ factsAfter (refusedReading unfitOutput) old
+      → (unfitOutput ≡ ifFit sized expected .result) × ((row ≡ after unfitOutput (flat (expected .«record»)) row) × (facts ≡ factsAfter (ifFit sized expected) old))
+  unfit-reading h e =
+      let q : refusedReading unfitOutput ≡ ifFit sized expected = sym (ap (λ (t : Bool). cond t expected (refusedReading unfitOutput)) h) in
+      (ap (λ (x : Reading). x .result) q, (refl, e ∙ ap (λ (x : Reading). factsAfter x old) q))
+
+  -- both have: a reading, as it is given
+  pub given-reading : {row′ : List ℤ} {facts : List ℕ} {n : ℕ} {q : Reading} → (isRecord row ≡ true) × (isFacts old ≡ true) → q ≡ expected → n ≡ q .result → row′ ≡ after n (flat (q .«record»)) row → facts ≡ factsOf q
+      → (n ≡ ifFit sized expected .result) × ((row′ ≡ after n (flat (expected .«record»)) row) × (facts ≡ factsAfter (ifFit sized expected) old))
+  given-reading {n = n} (t, u) e f g h =
+      let p : expected ≡ ifFit sized expected = sym (ap (λ (b : Bool). cond b expected (refusedReading unfitOutput)) (and-both (isRecord row) (isFacts old) t u)) in
+      let there : factsOf (ifFit sized expected) ≡ factsAfter (ifFit sized expected) old = sym (ap (λ (b : Bool). cond b (factsOf (ifFit sized expected)) old) u) in (
+        f ∙ ap (λ (q : Reading). q .result) (e ∙ p),
+        (g ∙ ap (λ (q : Reading). after n (flat (q .«record»)) row) e, h ∙ ap factsOf (e ∙ p) ∙ there),
+      )
 
 -- ---- writing
 

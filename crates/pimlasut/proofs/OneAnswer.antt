@@ -33,6 +33,13 @@ OneArray {n} ps r post array =
     (κs : Lfts n) (a : Dens κs ps) (x y : resT r κs .Denot) (s t : AtExit (endedOf n ps r) κs) → post κs a x s → post κs a y t
     → (x ≡ y) × (array κs s ≡ array κs t)
 
+-- nor two later contents of two lent arrays
+abbrev pub TwoArrays : {n : ℕ} (ps : List (PK n)) (r : RK n) → Out n ps r → {A B : Type 0} → ((κs : Lfts n) → AtExit (endedOf n ps r) κs → List A)
+    → ((κs : Lfts n) → AtExit (endedOf n ps r) κs → List B) → Type 0
+TwoArrays {n} ps r post one other =
+    (κs : Lfts n) (a : Dens κs ps) (x y : resT r κs .Denot) (s t : AtExit (endedOf n ps r) κs) → post κs a x s → post κs a y t
+    → (x ≡ y) × (one κs s ≡ one κs t) × (other κs s ≡ other κs t)
+
 -- nor two later values of a lent number
 abbrev pub OneArrayAndNumber : {n : ℕ} (ps : List (PK n)) (r : RK n) → Out n ps r → {A : Type 0} → ((κs : Lfts n) → AtExit (endedOf n ps r) κs → List A)
     → ((κs : Lfts n) → AtExit (endedOf n ps r) κs → ℕ) → Type 0
@@ -40,13 +47,13 @@ OneArrayAndNumber {n} ps r post array number =
     (κs : Lfts n) (a : Dens κs ps) (x y : resT r κs .Denot) (s t : AtExit (endedOf n ps r) κs) → post κs a x s → post κs a y t
     → (x ≡ y) × (array κs s ≡ array κs t) × (number κs s ≡ number κs t)
 
-pub pim-read-bare-one : OneArrayAndNumber pim-read-bare.ps pim-read-bare.r pim-read-bare-contract.Post (λ κs s. now (s .1 .0)) (λ κs s. now (s .1 .1 .0))
+pub pim-read-bare-one : TwoArrays pim-read-bare.ps pim-read-bare.r pim-read-bare-contract.Post (λ κs s. now (s .1 .0)) (λ κs s. now (s .1 .1 .0))
 pim-read-bare-one κs a x y s t e f = let p = e .0 ∙ sym (f .0) in (p, cc, cc)
 
-pub pim-read-wrapped-one : OneArrayAndNumber pim-read-wrapped.ps pim-read-wrapped.r pim-read-wrapped-contract.Post (λ κs s. now (s .1 .0)) (λ κs s. now (s .1 .1 .0))
+pub pim-read-wrapped-one : TwoArrays pim-read-wrapped.ps pim-read-wrapped.r pim-read-wrapped-contract.Post (λ κs s. now (s .1 .0)) (λ κs s. now (s .1 .1 .0))
 pim-read-wrapped-one κs a x y s t e f = let p = e .0 ∙ sym (f .0) in (p, cc, cc)
 
-pub pim-read-unit-one : OneArrayAndNumber pim-read-unit.ps pim-read-unit.r pim-read-unit-contract.Post (λ κs s. now (s .1 .0)) (λ κs s. now (s .1 .1 .0))
+pub pim-read-unit-one : TwoArrays pim-read-unit.ps pim-read-unit.r pim-read-unit-contract.Post (λ κs s. now (s .1 .0)) (λ κs s. now (s .1 .1 .0))
 pim-read-unit-one κs a x y s t e f = let p = e .0 ∙ sym (f .0) in (p, cc, cc)
 
 pub pim-write-bare-one : OneArrayAndNumber pim-write-bare.ps pim-write-bare.r pim-write-bare-contract.Post (λ κs s. now (s .1 .0)) (λ κs s. now (s .1 .1 .0))

@@ -7,6 +7,8 @@ use lib.Dec.{eqb}
 use lib.IntN.{ℤ}
 use lib.ListN.{length}
 use Rattle.refusals.specs.Refusals.{unfitOutput}
+use Rattle.reader.specs.declared.Reading.{Reading}
+use Rattle.reader.specs.Reading.{refusedReading}
 use Rattle.plan.specs.Limit.{mostPoints}
 use Rattle.track.specs.Track.{padded, joinOf, joinAnswer, placedPoints, placeAnswer, lookupAnswer}
 use Rattle.track.specs.declared.Point.{Point}
@@ -31,6 +33,29 @@ isRecord l = eqb (length l) flatLength
 -- the row has as many numbers as a table
 abbrev pub isTable : List ℤ → Bool
 isTable l = eqb (length l) tableLength
+
+-- ---- reading
+
+-- the facts of a reading, as one row: the bits read, and the number of blocks passed over
+abbrev pub factsOf : Reading → List ℕ
+factsOf q = q .bits ∷ q .skipped ∷ []
+
+abbrev pub factsLength : ℕ
+factsLength = 2
+
+-- the row has as many numbers as the facts
+abbrev pub isFacts : List ℕ → Bool
+isFacts l = eqb (length l) factsLength
+
+-- what a reading answers where each row has its length; else it is refused with 13
+abbrev pub ifFit : Bool → Reading → Reading
+ifFit sized q = cond sized q (refusedReading unfitOutput)
+
+-- the row afterwards: the facts, which are zeros beside a refusal; a row of another length stays as it was
+abbrev pub factsAfter : Reading → List ℕ → List ℕ
+factsAfter q old = cond (isFacts old) (factsOf q) old
+
+-- ---- the shader's numbers
 
 -- a level 2 block has seven numbers for the shader
 abbrev pub singles : ℕ

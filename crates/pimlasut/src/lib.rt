@@ -1,6 +1,7 @@
 // The library for C: include/pimlasut.h has the same functions with C's types. A slice crosses as a pointer and a length.
 // A record crosses as 146 numbers and a table of points as 9,408 (crates flat, tables), because no enum crosses.
-// Every function answers the result number; on a refusal every lent array and number stays as it was.
+// Every function answers the result number; on a refusal every lent array and number stays as it was, but the facts of a reading, which
+// are zeros then.
 use output::Written;
 use plan::Sought;
 use reader::Reading;
@@ -9,12 +10,14 @@ use shader::Numbers;
 use track::Point;
 ghost use mathlib.Core.Path.{_≡_};
 ghost use mathlib.Core.Bool.{true, cond, _&&_};
+ghost use mathlib.Core.List.{[], _∷_};
 ghost use Prim.Native.Nat.{_<_};
 ghost use lib.Dec.{eqb};
 ghost use lib.ListN.{length};
 ghost use Rattle.tree.specs.Bits.{bit};
 ghost use Rattle.record.specs.Blocks.{mostBlocks};
-ghost use Rattle.reader.specs.Reading.{readBare};
+ghost use Rattle.refusals.specs.Refusals.{unfitOutput};
+ghost use Rattle.reader.specs.Reading.{refusedReading, readBare};
 ghost use Rattle.writer.specs.Writing.{writeBare, bareBuffer};
 ghost use Rattle.wrapper.specs.Wrapper.{readWrapped, writeWrapped, wrappedBuffer};
 ghost use Rattle.sei.specs.SeiUnit.{readUnit, writeUnit, unitBuffer};
@@ -23,7 +26,7 @@ ghost use Rattle.plan.specs.Limit.{mostPoints};
 ghost use Rattle.track.specs.Track.{padded, placedPoints};
 ghost use Rattle.flat.specs.Flat.{placeLength, flat, flatLength, recordIn, blockNamed};
 ghost use Rattle.tables.specs.Table.{flatTable, tableLength, pointIn};
-ghost use Rattle.pimlasut.specs.Boundary.{ifSized, after, isRecord, isTable, singles, placing, placedTable, looking, joining, joinedTable, Patterns};
+ghost use Rattle.pimlasut.specs.Boundary.{ifSized, after, isRecord, isTable, factsLength, isFacts, factsOf, factsAfter, ifFit, singles, placing, placedTable, looking, joining, joinedTable, Patterns};
 
 // 01, Refusal numbers, as C's functions give them.
 const WRONG_LENGTH: u32 = Refusal::UNFIT_OUTPUT as u32;
@@ -35,58 +38,81 @@ const SINGLES: usize = 7;
 
 // ---- reading
 
-fn give_reading(reading: Reading, numbers: &mut [i32], bits: &mut u32) -> u32
-    requires { ⌜ length (now numbers) ≡ flatLength ⌝ }
+// The facts of a reading cross as one array: the bits read, and the number of blocks passed over.
+const FACTS: usize = 2;
+
+fn put_facts(bits: u32, skipped: u32, facts: &mut [u32])
+    requires { ⌜ length (now facts) ≡ factsLength ⌝ }
+    ensures { λ _. ⌜ now (facts .exit) ≡ bits ∷ skipped ∷ [] ⌝ }
+{
+    facts[0] = bits;
+    facts[1] = skipped;
+}
+
+// Beside a refusal the facts are zeros; an array of another length stays as it was.
+fn clear_facts(facts: &mut [u32])
+    ensures { λ _. ⌜ now (facts .exit) ≡ factsAfter (refusedReading unfitOutput) (now (facts .entry)) ⌝ }
+{
+    if facts.len() == FACTS {
+        put_facts(0, 0, facts);
+    }
+}
+
+fn give_reading(reading: Reading, numbers: &mut [i32], facts: &mut [u32]) -> u32
+    requires { ⌜ (length (now numbers) ≡ flatLength) × (length (now facts) ≡ factsLength) ⌝ }
     ensures result { λ r. ⌜ r ≡ reading .result ⌝ }
     ensures record { λ r. ⌜ now (numbers .exit) ≡ after r (flat (reading .«record»)) (now (numbers .entry)) ⌝ }
-    ensures bits { λ r. ⌜ now (bits .exit) ≡ after r (reading .bits) (now (bits .entry)) ⌝ }
+    ensures facts { λ _. ⌜ now (facts .exit) ≡ factsOf reading ⌝ }
 {
+    put_facts(reading.bits, reading.skipped as u32, facts);
     if reading.result != 0 {
         return reading.result as u32;
     }
     let r = reading.record;
     flat::put_record(numbers, 0, r);
-    *bits = reading.bits;
     0
 }
 
 #[no_mangle]
-pub extern "C" fn pim_read_bare(input: &[u8], numbers: &mut [i32], bits: &mut u32) -> u32
-    ensures result { λ r. ⌜ r ≡ ifSized (isRecord (now (numbers .entry))) (readBare (now (input .entry)) .result) ⌝ }
+pub extern "C" fn pim_read_bare(input: &[u8], numbers: &mut [i32], facts: &mut [u32]) -> u32
+    ensures result { λ r. ⌜ r ≡ ifFit (isRecord (now (numbers .entry)) && isFacts (now (facts .entry))) (readBare (now (input .entry))) .result ⌝ }
     ensures record { λ r. ⌜ now (numbers .exit) ≡ after r (flat (readBare (now (input .entry)) .«record»)) (now (numbers .entry)) ⌝ }
-    ensures bits { λ r. ⌜ now (bits .exit) ≡ after r (readBare (now (input .entry)) .bits) (now (bits .entry)) ⌝ }
+    ensures facts { λ r. ⌜ now (facts .exit) ≡ factsAfter (ifFit (isRecord (now (numbers .entry)) && isFacts (now (facts .entry))) (readBare (now (input .entry)))) (now (facts .entry)) ⌝ }
 {
-    if numbers.len() != flat::NUMBERS {
+    if (numbers.len() != flat::NUMBERS) | (facts.len() != FACTS) {
+        clear_facts(facts);
         return WRONG_LENGTH;
     }
     let reading = reader::read_data(input);
-    give_reading(reading, numbers, bits)
+    give_reading(reading, numbers, facts)
 }
 
 #[no_mangle]
-pub extern "C" fn pim_read_wrapped(input: &[u8], numbers: &mut [i32], bits: &mut u32) -> u32
-    ensures result { λ r. ⌜ r ≡ ifSized (isRecord (now (numbers .entry))) (readWrapped (now (input .entry)) .result) ⌝ }
+pub extern "C" fn pim_read_wrapped(input: &[u8], numbers: &mut [i32], facts: &mut [u32]) -> u32
+    ensures result { λ r. ⌜ r ≡ ifFit (isRecord (now (numbers .entry)) && isFacts (now (facts .entry))) (readWrapped (now (input .entry))) .result ⌝ }
     ensures record { λ r. ⌜ now (numbers .exit) ≡ after r (flat (readWrapped (now (input .entry)) .«record»)) (now (numbers .entry)) ⌝ }
-    ensures bits { λ r. ⌜ now (bits .exit) ≡ after r (readWrapped (now (input .entry)) .bits) (now (bits .entry)) ⌝ }
+    ensures facts { λ r. ⌜ now (facts .exit) ≡ factsAfter (ifFit (isRecord (now (numbers .entry)) && isFacts (now (facts .entry))) (readWrapped (now (input .entry)))) (now (facts .entry)) ⌝ }
 {
-    if numbers.len() != flat::NUMBERS {
+    if (numbers.len() != flat::NUMBERS) | (facts.len() != FACTS) {
+        clear_facts(facts);
         return WRONG_LENGTH;
     }
     let reading = wrapper::read_wrapped(input);
-    give_reading(reading, numbers, bits)
+    give_reading(reading, numbers, facts)
 }
 
 #[no_mangle]
-pub extern "C" fn pim_read_unit(input: &[u8], numbers: &mut [i32], bits: &mut u32) -> u32
-    ensures result { λ r. ⌜ r ≡ ifSized (isRecord (now (numbers .entry))) (readUnit (now (input .entry)) .result) ⌝ }
+pub extern "C" fn pim_read_unit(input: &[u8], numbers: &mut [i32], facts: &mut [u32]) -> u32
+    ensures result { λ r. ⌜ r ≡ ifFit (isRecord (now (numbers .entry)) && isFacts (now (facts .entry))) (readUnit (now (input .entry))) .result ⌝ }
     ensures record { λ r. ⌜ now (numbers .exit) ≡ after r (flat (readUnit (now (input .entry)) .«record»)) (now (numbers .entry)) ⌝ }
-    ensures bits { λ r. ⌜ now (bits .exit) ≡ after r (readUnit (now (input .entry)) .bits) (now (bits .entry)) ⌝ }
+    ensures facts { λ r. ⌜ now (facts .exit) ≡ factsAfter (ifFit (isRecord (now (numbers .entry)) && isFacts (now (facts .entry))) (readUnit (now (input .entry)))) (now (facts .entry)) ⌝ }
 {
-    if numbers.len() != flat::NUMBERS {
+    if (numbers.len() != flat::NUMBERS) | (facts.len() != FACTS) {
+        clear_facts(facts);
         return WRONG_LENGTH;
     }
     let reading = sei::read_unit(input);
-    give_reading(reading, numbers, bits)
+    give_reading(reading, numbers, facts)
 }
 
 // ---- writing

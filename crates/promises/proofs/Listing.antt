@@ -1,6 +1,6 @@
 -- What show prints: every input has its listing, and two accepted payloads have two.
 use Prim.Native.Nat.{ℕ, _<_, _≤_, _^_}
-use mathlib.Core.Path.{_≡_, refl, ap, sym, _∙_}
+use mathlib.Core.Path.{_≡_, refl, ap, sym}
 use mathlib.Core.List.{List, [], _∷_, _++_}
 use mathlib.Core.Bool.{Bool, true, false, not, _||_}
 use native.Mathlib.Omega.{arith}
@@ -12,23 +12,24 @@ use Rattle.output.specs.Output.{written}
 use Rattle.output.proofs.Output.{done}
 use Rattle.valid.specs.Valid.{among, valid}
 use Rattle.syntax.specs.Reason.{wrappedNumbers}
-use Rattle.syntax.specs.Wrapper.{wrappedData, wrappedPayload}
-use Rattle.syntax.proofs.Largest.{most-bits}
+use Rattle.syntax.specs.Wrapper.{wrappedData, wrappedDataPayload}
+use Rattle.syntax.proofs.Largest.{most-data-bits}
 use Rattle.reader.specs.declared.Reading.{Reading}
 use Rattle.wrapper.specs.Wrapper.{readWrapped}
 use Rattle.listing.specs.Listing.{listing, listable, writeListing, listingBuffer}
 use Rattle.listing.proofs.Longest.{no-listing-is-longer, longest-bytes}
-use Rattle.listing.proofs.Different.{accepted-is-given, one-listing-one-reading}
-use Rattle.promises.proofs.Reading.{wrapped-data-gets-a-listed-number, a-refusal-is-empty, accepted-wrapped-means-the-one-payload}
+use Rattle.listing.proofs.Different.{ShownAlike, accepted-is-given, one-listing-one-reading}
+use Rattle.promises.proofs.Reading.{wrapped-data-gets-a-listed-number, a-refusal-is-empty, carried-is-valid, accepted-wrapped-carries-data, accepted-wrapped-is-proper, one-record-one-wrapped-payload}
 
--- two accepted payloads with one listing are the same bytes
-pub two-payloads-two-listings : (s t : List ℕ) → Bytes s → Bytes t → readWrapped s .result ≡ 0 → readWrapped t .result ≡ 0
+-- two accepted payloads with one listing have one record and as many bits; where nothing was passed over they are the same bytes
+pub one-listing-one-record : (s t : List ℕ) → Bytes s → Bytes t → readWrapped s .result ≡ 0 → readWrapped t .result ≡ 0
+    → listing (readWrapped s) ≡ listing (readWrapped t) → ShownAlike (readWrapped s) (readWrapped t)
+one-listing-one-record s t hs ht es et e =
+    one-listing-one-reading (readWrapped s) (readWrapped t) (accepted-is-given (readWrapped s) es (accepted-wrapped-is-proper s hs es)) (accepted-is-given (readWrapped t) et (accepted-wrapped-is-proper t ht et)) e
+
+pub two-payloads-two-listings : (s t : List ℕ) → Bytes s → Bytes t → readWrapped s .result ≡ 0 → readWrapped t .result ≡ 0 → readWrapped s .skipped ≡ 0 → readWrapped t .skipped ≡ 0
     → listing (readWrapped s) ≡ listing (readWrapped t) → s ≡ t
-two-payloads-two-listings s t hs ht es et e =
-    let a = accepted-wrapped-means-the-one-payload s hs es in
-    let b = accepted-wrapped-means-the-one-payload t ht et in
-    let q = one-listing-one-reading (readWrapped s) (readWrapped t) (accepted-is-given (readWrapped s) es (a .0)) (accepted-is-given (readWrapped t) et (b .0)) e in
-    a .1 ∙ ap (λ (r : Reading). wrappedPayload (r .«record»)) q ∙ sym (b .1)
+two-payloads-two-listings s t hs ht es et zs zt e = one-record-one-wrapped-payload s t hs ht es et zs zt (one-listing-one-record s t hs ht es et e .«record»)
 
 -- ---- every input has its listing
 
@@ -46,7 +47,7 @@ one-byte : (s : List ℕ) → readWrapped s .result < 256
 one-byte s = among-bytes (readWrapped s .result) (0 ∷ wrappedNumbers) small (wrapped-data-gets-a-listed-number s)
   where
     small : Bytes (0 ∷ wrappedNumbers)
-    small = (omega arith, (omega arith, (omega arith, (omega arith, (omega arith, (omega arith, (omega arith, (omega arith, (omega arith, (omega arith, (omega arith, (omega arith, (omega arith, tt)))))))))))))
+    small = (omega arith, (omega arith, (omega arith, (omega arith, (omega arith, (omega arith, (omega arith, (omega arith, (omega arith, (omega arith, (omega arith, (omega arith, tt))))))))))))
 
 -- what is read can be listed, and its bits are few
 listable-bits : (s : List ℕ) → Bytes s → (listable (readWrapped s) ≡ true) × (readWrapped s .bits < 2 ^ 32)
@@ -54,8 +55,8 @@ listable-bits s h = go (eqb (readWrapped s .result) 0) refl
   where
     go : (t : Bool) → eqb (readWrapped s .result) 0 ≡ t → (not t || valid (readWrapped s .«record») ≡ true) × (readWrapped s .bits < 2 ^ 32)
     go true e =
-        let a = accepted-wrapped-means-the-one-payload s h (eqb-true (readWrapped s .result) 0 e) in
-        (a .0 .valid-record, omega (arith, a .2, most-bits (readWrapped s .«record») (a .0)))
+        let a = accepted-wrapped-carries-data s h (eqb-true (readWrapped s .result) 0 e) in
+        (carried-is-valid wrappedDataPayload s (readWrapped s) a .valid-record, omega (arith, ap (λ (q : Reading). q .bits) (a .reading), most-data-bits (a .held) (a .fits)))
     go false e = (refl, omega (arith, a-refusal-is-empty (wrappedData (bitsOf s)) (eqb-false (readWrapped s .result) 0 e) .1))
 
 -- 1,586 bytes have room for the listing of every input, and a write leaves what lies behind it

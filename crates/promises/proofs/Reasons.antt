@@ -10,15 +10,13 @@ use Rattle.refusals.specs.Refusals.{pastEnd, bytesRemain}
 use Rattle.tree.specs.Bits.{bitsOf, Bytes}
 use Rattle.tree.specs.Reading.{Fault, numberIn, Out, ok, no}
 use Rattle.tree.specs.Stands.{ToldAlike}
-use Rattle.record.specs.declared.Record.{Record}
 use Rattle.record.specs.Name.{Name}
-use Rattle.valid.specs.Valid.{Proper}
-use Rattle.syntax.specs.Data.{bareData}
-use Rattle.syntax.specs.Element.{payload}
-use Rattle.syntax.specs.Wrapper.{wrappedData, wrappedPayload}
+use Rattle.syntax.specs.Data.{Data, bareData}
+use Rattle.syntax.specs.Element.{dataPayload, WellFormedData}
+use Rattle.syntax.specs.Wrapper.{wrappedData, wrappedDataPayload}
 use Rattle.syntax.specs.Reason.{Reason, WrappedReason}
-use Rattle.syntax.specs.Limits.{refused, outcomeOf}
-use Rattle.syntax.specs.Largest.{readFarthest}
+use Rattle.syntax.specs.Largest.{longestData}
+use Rattle.syntax.proofs.Largest.{longest-length}
 use Rattle.syntax.proofs.Reasons.{the-reason-is-true, a-true-reason-is-given}
 use Rattle.syntax.proofs.Stands as bare
 use Rattle.syntax.proofs.Wrapped as wrapped
@@ -26,18 +24,18 @@ use Rattle.reader.specs.Reading.{readingOf, readBare}
 use Rattle.wrapper.specs.Wrapper.{readWrapped}
 
 -- a result that is not 0 is the number of a fault
-fault-of : (o : Out Name Record) → (readingOf o .result ≡ 0 → ⊥) → (f : Fault Name) × (o ≡ no f) × (readingOf o .result ≡ numberIn f)
-fault-of (ok r n) h = absurd (h refl)
+fault-of : (o : Out Name Data) → (readingOf o .result ≡ 0 → ⊥) → (f : Fault Name) × (o ≡ no f) × (readingOf o .result ≡ numberIn f)
+fault-of (ok d n) h = absurd (h refl)
 fault-of (no f) h = (f, refl, refl)
 
-number-of : {o : Out Name Record} (f : Fault Name) → o ≡ no f → readingOf o .result ≡ numberIn f
-number-of f e = ap (λ (o : Out Name Record). readingOf o .result) e
+number-of : {o : Out Name Data} (f : Fault Name) → o ≡ no f → readingOf o .result ≡ numberIn f
+number-of f e = ap (λ (o : Out Name Data). readingOf o .result) e
 
 not-done : {n : ℕ} (k : ℕ) → 0 < k → n ≡ k → n ≡ 0 → ⊥
 not-done k h e z = omega arith
 
 -- what holds of a refusal by its number, of bare data and of wrapped data alike
-module _ (told : List Bool → Out Name Record) where
+module _ (told : List Bool → Out Name Data) where
   abbrev resultOf : List ℕ → ℕ
   resultOf s = readingOf (told (bitsOf s)) .result
 
@@ -58,9 +56,9 @@ module _ (told : List Bool → Out Name Record) where
   never-1 : (n : ℕ) → ((s : List ℕ) → n ≤ length s → (f : Fault Name) → told (bitsOf s) ≡ no f → numberIn f ≡ pastEnd → ⊥) → (s : List ℕ) → n ≤ length s → resultOf s ≡ 1 → ⊥
   never-1 n law s l e = let x = fault-with 1 (omega arith) s e in law s l (x .0) (x .1) (x .2)
 
-  only-12 : (whole : Record → List ℕ)
-      → ((s : List ℕ) → Bytes s → (f : Fault Name) → told (bitsOf s) ≡ no f → numberIn f ≡ bytesRemain → (r : Record) × (t : List ℕ) × Proper r × (s ≡ whole r ++ t) × (0 < length t))
-      → (s : List ℕ) → Bytes s → resultOf s ≡ 12 → (r : Record) × (t : List ℕ) × Proper r × (s ≡ whole r ++ t) × (0 < length t)
+  only-12 : (whole : Data → List ℕ)
+      → ((s : List ℕ) → Bytes s → (f : Fault Name) → told (bitsOf s) ≡ no f → numberIn f ≡ bytesRemain → (d : Data) × (t : List ℕ) × WellFormedData d × (s ≡ whole d ++ t) × (0 < length t))
+      → (s : List ℕ) → Bytes s → resultOf s ≡ 12 → (d : Data) × (t : List ℕ) × WellFormedData d × (s ≡ whole d ++ t) × (0 < length t)
   only-12 whole law s h e = let x = fault-with 12 (omega arith) s e in law s h (x .0) (x .1) (x .2)
 
 -- ---- the reason: which elements stand before, each meeting its rule, which one fails, and how
@@ -81,29 +79,24 @@ a-refusal-other-than-1-stands = stands bareData bare.a-refusal-stands
 -- ---- 1: what is cut short
 
 -- every proper beginning of a payload gets 1
-pub every-proper-beginning-gets-1 : (r : Record) → Proper r → (s t : List ℕ) → payload r ≡ s ++ t → 0 < length t → readBare s .result ≡ 1
-every-proper-beginning-gets-1 r p s t e h = let x = bare.every-proper-beginning-gets-1 r p s t e h in number-of _ (x .2)
+pub every-proper-beginning-gets-1 : (d : Data) → WellFormedData d → (s t : List ℕ) → dataPayload d ≡ s ++ t → 0 < length t → readBare s .result ≡ 1
+every-proper-beginning-gets-1 d w s t e h = let x = bare.every-proper-beginning-gets-1 d w s t e h in number-of _ (x .2)
 
--- bare data of 230 bytes or more never gets 1
-pub data-of-230-bytes-never-gets-1 : (s : List ℕ) → 230 ≤ length s → readBare s .result ≡ 1 → ⊥
-data-of-230-bytes-never-gets-1 = never-1 bareData 230 bare.bare-data-of-230-bytes-never-gets-1
+-- bare data of 260,766 bytes or more never gets 1
+pub data-of-260766-bytes-never-gets-1 : (s : List ℕ) → 260766 ≤ length s → readBare s .result ≡ 1 → ⊥
+data-of-260766-bytes-never-gets-1 = never-1 bareData 260766 bare.bare-data-of-260766-bytes-never-gets-1
 
-result-of : (o : Out Name Record) (n : ℕ) → outcomeOf o ≡ refused n → readingOf o .result ≡ n
-result-of (ok r m) n e = let z : _≡_ {A = ℕ} 0 1 = cc in absurd (omega arith)
-result-of (no f) n e = cc
-
--- and no shorter length will do
-pub data-of-229-bytes-can-get-1 : (length readFarthest ≡ 230) × (readBare (take 229 readFarthest) .result ≡ 1)
-data-of-229-bytes-can-get-1 =
-    (bare.the-longest-that-gets-1 .0, result-of (bareData (bitsOf (take 229 readFarthest))) 1 (bare.the-longest-that-gets-1 .1))
+-- and no shorter length will do: the longest payload has as many, and cut by its last byte it gets 1
+pub data-of-260765-bytes-can-get-1 : (length (dataPayload longestData) ≡ 260766) × (readBare (take 260765 (dataPayload longestData)) .result ≡ 1)
+data-of-260765-bytes-can-get-1 = (longest-length, number-of _ (bare.the-longest-that-gets-1 .2))
 
 -- ---- 12: a payload with anything behind it, and only that
 
-pub a-payload-with-anything-behind-gets-12 : (r : Record) → Proper r → (t : List ℕ) → 0 < length t → readBare (payload r ++ t) .result ≡ 12
-a-payload-with-anything-behind-gets-12 r p t h = number-of _ (bare.a-payload-with-anything-behind-gets-12 r p t h)
+pub a-payload-with-anything-behind-gets-12 : (d : Data) → WellFormedData d → (t : List ℕ) → 0 < length t → readBare (dataPayload d ++ t) .result ≡ 12
+a-payload-with-anything-behind-gets-12 d w t h = number-of _ (bare.a-payload-with-anything-behind-gets-12 d w t h)
 
-pub only-such-an-input-gets-12 : (s : List ℕ) → Bytes s → readBare s .result ≡ 12 → (r : Record) × (t : List ℕ) × Proper r × (s ≡ payload r ++ t) × (0 < length t)
-only-such-an-input-gets-12 = only-12 bareData payload bare.only-such-an-input-gets-12
+pub only-such-an-input-gets-12 : (s : List ℕ) → Bytes s → readBare s .result ≡ 12 → (d : Data) × (t : List ℕ) × WellFormedData d × (s ≡ dataPayload d ++ t) × (0 < length t)
+only-such-an-input-gets-12 = only-12 bareData dataPayload bare.only-such-an-input-gets-12
 
 -- ---- the same of wrapped data
 
@@ -116,14 +109,14 @@ a-wrapped-reason-gives-its-number s f r = number-of f (wrapped.a-true-wrapped-re
 pub a-wrapped-refusal-other-than-1-stands : (s t : List ℕ) → (readWrapped s .result ≡ 0 → ⊥) → (readWrapped s .result ≡ 1 → ⊥) → readWrapped (s ++ t) .result ≡ readWrapped s .result
 a-wrapped-refusal-other-than-1-stands = stands wrappedData wrapped.a-refusal-of-wrapped-data-stands
 
-pub every-proper-beginning-of-a-wrapped-payload-gets-1 : (r : Record) → Proper r → (s t : List ℕ) → wrappedPayload r ≡ s ++ t → 0 < length t → readWrapped s .result ≡ 1
-every-proper-beginning-of-a-wrapped-payload-gets-1 r p s t e h = let x = wrapped.every-proper-beginning-of-a-wrapped-payload-gets-1 r p s t e h in number-of _ (x .2)
+pub every-proper-beginning-of-a-wrapped-payload-gets-1 : (d : Data) → WellFormedData d → (s t : List ℕ) → wrappedDataPayload d ≡ s ++ t → 0 < length t → readWrapped s .result ≡ 1
+every-proper-beginning-of-a-wrapped-payload-gets-1 d w s t e h = let x = wrapped.every-proper-beginning-of-a-wrapped-payload-gets-1 d w s t e h in number-of _ (x .2)
 
-pub wrapped-data-of-238-bytes-never-gets-1 : (s : List ℕ) → 238 ≤ length s → readWrapped s .result ≡ 1 → ⊥
-wrapped-data-of-238-bytes-never-gets-1 = never-1 wrappedData 238 wrapped.wrapped-data-of-238-bytes-never-gets-1
+pub wrapped-data-of-260774-bytes-never-gets-1 : (s : List ℕ) → 260774 ≤ length s → readWrapped s .result ≡ 1 → ⊥
+wrapped-data-of-260774-bytes-never-gets-1 = never-1 wrappedData 260774 wrapped.wrapped-data-of-260774-bytes-never-gets-1
 
-pub a-wrapped-payload-with-anything-behind-gets-12 : (r : Record) → Proper r → (t : List ℕ) → 0 < length t → readWrapped (wrappedPayload r ++ t) .result ≡ 12
-a-wrapped-payload-with-anything-behind-gets-12 r p t h = number-of _ (wrapped.a-wrapped-payload-with-anything-behind-gets-12 r p t h)
+pub a-wrapped-payload-with-anything-behind-gets-12 : (d : Data) → WellFormedData d → (t : List ℕ) → 0 < length t → readWrapped (wrappedDataPayload d ++ t) .result ≡ 12
+a-wrapped-payload-with-anything-behind-gets-12 d w t h = number-of _ (wrapped.a-wrapped-payload-with-anything-behind-gets-12 d w t h)
 
-pub only-such-a-wrapped-input-gets-12 : (s : List ℕ) → Bytes s → readWrapped s .result ≡ 12 → (r : Record) × (t : List ℕ) × Proper r × (s ≡ wrappedPayload r ++ t) × (0 < length t)
-only-such-a-wrapped-input-gets-12 = only-12 wrappedData wrappedPayload wrapped.only-such-a-wrapped-input-gets-12
+pub only-such-a-wrapped-input-gets-12 : (s : List ℕ) → Bytes s → readWrapped s .result ≡ 12 → (d : Data) × (t : List ℕ) × WellFormedData d × (s ≡ wrappedDataPayload d ++ t) × (0 < length t)
+only-such-a-wrapped-input-gets-12 = only-12 wrappedData wrappedDataPayload wrapped.only-such-a-wrapped-input-gets-12

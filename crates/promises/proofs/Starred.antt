@@ -4,12 +4,11 @@ use mathlib.Core.Path.{_≡_, refl, ap, sym, _∙_}
 use mathlib.Core.List.{List, [], _∷_, map}
 use Rattle.tree.specs.Bits.{bitsOf}
 use Rattle.tree.specs.Reading.{Out, ok, no}
-use Rattle.record.specs.declared.Record.{Record}
 use Rattle.record.specs.Name.{Name}
 use Rattle.record.specs.Blocks.{emptyRecord}
-use Rattle.syntax.specs.Data.{bareData}
+use Rattle.syntax.specs.Data.{Data, bareData}
 use Rattle.syntax.specs.Wrapper.{wrappedData}
-use Rattle.syntax.specs.Limits.{Outcome, accepted, refused, outcomeOf, Case, limits, longPayloads, starred, wrappedCases}
+use Rattle.syntax.specs.Limits.{Outcome, accepted, refused, outcomeOf, Case, limits, longPayloads, manyBlocks, starred, wrappedCases}
 use Rattle.syntax.proofs.Limits as tree
 use Rattle.reader.specs.declared.Reading.{Reading}
 use Rattle.reader.specs.Reading.{readingOf, readBare}
@@ -17,8 +16,8 @@ use Rattle.wrapper.specs.Wrapper.{readWrapped}
 
 -- the answer that an outcome is
 abbrev pub answerFor : Outcome → Reading
-answerFor (accepted r bits) = record { result = 0; bits = bits; «record» = r }
-answerFor (refused n) = record { result = n; bits = 0; «record» = emptyRecord }
+answerFor (accepted r bits skipped) = record { result = 0; bits = bits; skipped = skipped; «record» = r }
+answerFor (refused n) = record { result = n; bits = 0; skipped = 0; «record» = emptyRecord }
 
 abbrev pub expected : Case → Reading
 expected c = answerFor (c .outcome)
@@ -29,8 +28,8 @@ bare c = readBare (c .bytes)
 abbrev pub wrapped : Case → Reading
 wrapped c = readWrapped (c .bytes)
 
-answered : (o : Out Name Record) → readingOf o ≡ answerFor (outcomeOf o)
-answered (ok r n) = refl
+answered : (o : Out Name Data) → readingOf o ≡ answerFor (outcomeOf o)
+answered (ok d n) = refl
 answered (no f) = refl
 
 each : {A B : Type 0} (f : Case → A) (g : B → A) (h : Case → B) → ((c : Case) → f c ≡ g (h c)) → (l : List Case) → map f l ≡ map g (map h l)
@@ -44,7 +43,7 @@ module _ (l : List Case) where
   wrapped-cases : map tree.foundWrapped l ≡ map tree.expected l → map wrapped l ≡ map expected l
   wrapped-cases e = each wrapped answerFor tree.foundWrapped (λ c. answered (wrappedData (bitsOf (c .bytes)))) l ∙ ap (map answerFor) e ∙ sym (each expected answerFor tree.expected (λ c. refl) l)
 
--- each starred payload gets the outcome that document 01 gives
+-- each starred payload gets the outcome that document 01 gives, and two of them that of 02, b
 pub the-starred-cases : map bare starred ≡ map expected starred
 the-starred-cases = bare-cases starred tree.the-starred-cases
 
@@ -54,6 +53,9 @@ the-limits-and-the-order = bare-cases limits tree.the-limits-and-the-order
 
 pub sixteen-of-level-2-and-no-more : map bare longPayloads ≡ map expected longPayloads
 sixteen-of-level-2-and-no-more = bare-cases longPayloads tree.sixteen-of-level-2-and-no-more
+
+pub two-hundred-and-fifty-four-blocks : map bare manyBlocks ≡ map expected manyBlocks
+two-hundred-and-fifty-four-blocks = bare-cases manyBlocks tree.two-hundred-and-fifty-four-blocks
 
 -- the wrapped examples
 pub the-wrapped-cases : map wrapped wrappedCases ≡ map expected wrappedCases

@@ -18,10 +18,12 @@ use Rattle.output.proofs.Output.{done, short, bad}
 use Rattle.record.specs.declared.Record.{Record}
 use Rattle.record.specs.Blocks.{emptyRecord}
 use Rattle.valid.specs.Valid.{among, valid, Proper}
-use Rattle.syntax.specs.Element.{bitsOfData}
+use Rattle.syntax.specs.Data.{Data}
+use Rattle.syntax.specs.Element.{dataOf}
 use Rattle.syntax.specs.Wrapper.{wrapperBytes, wrappedData}
 use Rattle.syntax.specs.Reason.{dataNumbers, wrappedNumbers}
-use Rattle.syntax.proofs.Wrapped.{handed-on}
+use Rattle.syntax.proofs.Records.{the-record-is-valid, data-is-well-formed}
+use Rattle.syntax.proofs.Wrapped.{same-wrapped-payload, handed-on}
 use Rattle.reader.specs.declared.Reading.{Reading}
 use Rattle.reader.specs.Reading.{refusedReading, readingOf, readBare}
 use Rattle.wrapper.specs.Wrapper.{beginsWith, readWrapped, writeWrapped, wrappedBuffer}
@@ -32,10 +34,11 @@ use Rattle.rbsp.proofs.Laws.{content-bytes}
 use Rattle.sei.specs.Header.{«nal_unit_type», «nuh_layer_id», «nuh_temporal_id_plus1», mostUnitBytes, AllowedHeader}
 use Rattle.sei.specs.SeiUnit.{unitOf, readUnit, unitBytes, writeUnit, unitBuffer}
 use Rattle.sei.specs.Units.{bodyOf, Thirty, ThirtyOne, ThirtyTwo, ThirtyThree, HoldsOurs, IsUnit}
-use Rattle.promises.specs.Units.{HoldsRecord, unitNumbers}
+use Rattle.promises.specs.Units.{HoldsData, unitNumbers}
+use Rattle.promises.specs.Payloads.{readingFor, plainReading}
 use Rattle.sei.proofs.Functions.{most-unit-bytes}
 use Rattle.sei.proofs.Units.{gets-30, gets-31, gets-32, gets-33, ours-is-read, one-of-five, is-a-unit, unit-is-read}
-use Rattle.promises.proofs.Reading.{bare-data-gets-a-listed-number, a-refusal-is-empty, wrapped-data-gets-a-listed-number, accepted-wrapped-means-the-one-payload, every-valid-record-is-read-wrapped}
+use Rattle.promises.proofs.Reading.{bare-data-gets-a-listed-number, a-refusal-is-empty, wrapped-data-gets-a-listed-number, plain-is, accepted-wrapped-carries-data, every-wrapped-payload-is-read}
 use Rattle.promises.proofs.Writing.{accepted-wrapped-writes-back}
 
 -- ---- 30 to 33
@@ -131,21 +134,24 @@ module _ (u : List ℕ) (h : Bytes u) where
 
 -- ---- exactly
 
--- an accepted unit holds the record that comes back, with its bits; and each unit that holds a record is accepted
-pub an-accepted-unit-holds-its-record : (u : List ℕ) → Bytes u → readUnit u .result ≡ 0 → HoldsRecord u (readUnit u .«record») × (readUnit u .bits ≡ bitsOfData (readUnit u .«record»))
-an-accepted-unit-holds-its-record u h e = go (else-ours-decides u h 0 e (omega arith))
+-- an accepted unit holds well-formed data whose reading comes back; and each unit that holds such data is accepted so
+pub an-accepted-unit-holds-its-data : (u : List ℕ) → Bytes u → readUnit u .result ≡ 0 → (d : Data) × HoldsData u d × (readUnit u ≡ readingFor d)
+an-accepted-unit-holds-its-data u h e = go (else-ours-decides u h 0 e (omega arith))
   where
-    go : (m : Message) × HoldsOurs u m × (readUnit u ≡ readWrapped (m .content)) → HoldsRecord u (readUnit u .«record») × (readUnit u .bits ≡ bitsOfData (readUnit u .«record»))
+    go : (m : Message) × HoldsOurs u m × (readUnit u ≡ readWrapped (m .content)) → (d : Data) × HoldsData u d × (readUnit u ≡ readingFor d)
     go (m, t, q) =
         let b : Bytes (m .content) = content-bytes (t .messages) m (subst Bytes (t .all) (removed-bytes (drop 2 u) (bytes-drop 2 u h))) (t .first) in
-        let a = accepted-wrapped-means-the-one-payload (m .content) b (sym (ap (λ (x : Reading). x .result) q) ∙ e) in
-        rw q (record { messages = t .messages; unit = is-a-unit u h (t .rightUnit) (t .noneInside) (t .messages) (t .all); ours = m; first = t .first; payload = a .1; proper = a .0 }, a .2)
+        let a = accepted-wrapped-carries-data (m .content) b (sym (ap (λ (x : Reading). x .result) q) ∙ e) in (
+          a .held,
+          record { messages = t .messages; unit = is-a-unit u h (t .rightUnit) (t .noneInside) (t .messages) (t .all); ours = m; first = t .first; payload = a .bytes; fits = a .fits },
+          q ∙ a .reading,
+        )
 
-pub a-unit-that-holds-a-record-is-accepted : (u : List ℕ) (r : Record) → HoldsRecord u r → readUnit u ≡ record { result = 0; bits = bitsOfData r; «record» = r }
-a-unit-that-holds-a-record-is-accepted u r k =
+pub a-unit-that-holds-data-is-accepted : (u : List ℕ) (d : Data) → HoldsData u d → readUnit u ≡ readingFor d
+a-unit-that-holds-data-is-accepted u d k =
     let v = k .unit in
     ap readUnit (v .is) ∙ unit-is-read (v .first) (v .second) (v .header) (k .messages) (omega (arith, v .few, ap length (v .is))) (k .ours) (k .first)
-    ∙ ap readWrapped (k .payload) ∙ every-valid-record-is-read-wrapped r (k .proper)
+    ∙ ap readWrapped (k .payload) ∙ every-wrapped-payload-is-read d (k .fits)
 
 -- a unit is its header and the one escaping of what stands behind it
 rebuilt : (u : List ℕ) (ms : List Message) → IsUnit u ms → u ≡ take 2 u ++ escaped (bodyOf u)
@@ -157,8 +163,8 @@ rebuilt u ms k =
 -- so two units that differ in emulation bytes only cannot both be accepted
 pub emulation-bytes-cannot-differ : (u v : List ℕ) → Bytes u → Bytes v → readUnit u .result ≡ 0 → readUnit v .result ≡ 0 → take 2 u ≡ take 2 v → bodyOf u ≡ bodyOf v → u ≡ v
 emulation-bytes-cannot-differ u v hu hv eu ev header body =
-    let x = an-accepted-unit-holds-its-record u hu eu .0 in
-    let y = an-accepted-unit-holds-its-record v hv ev .0 in
+    let x = an-accepted-unit-holds-its-data u hu eu .1 in
+    let y = an-accepted-unit-holds-its-data v hv ev .1 in
     rebuilt u (x .messages) (x .unit) ∙ ap (λ (l : List ℕ). l ++ escaped (bodyOf u)) header ∙ ap (λ (l : List ℕ). take 2 v ++ escaped l) body ∙ sym (rebuilt v (y .messages) (y .unit))
 
 -- ---- the others are passed over
@@ -211,8 +217,8 @@ pub our-message-is-ours : (r : Record) → isOurs (ourMessage r) ≡ true
 unfolding beginsWith
 our-message-is-ours r = refl
 
--- it holds its record
-written-holds : (r : Record) → Proper r → HoldsRecord (unitBytes r) r
+-- it holds its record and nothing else
+written-holds : (r : Record) → Proper r → HoldsData (unitBytes r) (dataOf r)
 unfolding NoneOurs
 written-holds r p =
     record {
@@ -220,22 +226,22 @@ written-holds r p =
       unit = record { first = 0x4E; second = 0x01; header = our-header; few = omega (arith, most-unit-bytes r p); is = refl };
       ours = ourMessage r;
       first = record { before = []; behind = []; all = refl; others = tt; ours = our-message-is-ours r };
-      payload = refl;
-      proper = p;
+      payload = sym (same-wrapped-payload r p);
+      fits = data-is-well-formed r p;
     }
 
 -- and reads back to it
 pub a-written-unit-reads-back : (r : Record) (out : List ℕ) → Proper r → length (unitBytes r) ≤ length out
-    → readUnit (take (writeUnit r out .bytes) (unitBuffer r out)) ≡ record { result = 0; bits = bitsOfData r; «record» = r }
+    → readUnit (take (writeUnit r out .bytes) (unitBuffer r out)) ≡ plainReading r
 a-written-unit-reads-back r out p h =
     let w = a-unit-is-written r out (p .valid-record) h in
     let t : take (writeUnit r out .bytes) (unitBuffer r out) ≡ unitBytes r = rw (w .0, w .1) (take-at (unitBytes r) (drop (length (unitBytes r)) out) (length (unitBytes r)) refl) in
-    ap readUnit t ∙ a-unit-that-holds-a-record-is-accepted (unitBytes r) r (written-holds r p)
+    ap readUnit t ∙ a-unit-that-holds-data-is-accepted (unitBytes r) (dataOf r) (written-holds r p) ∙ plain-is r p
 
--- an accepted unit's record, written by itself, is the content of its message: demand 2 of the unwrapped message
-pub our-message-writes-back : (u : List ℕ) → Bytes u → readUnit u .result ≡ 0 → (m : Message) × HoldsOurs u m × ((out : List ℕ) → length (m .content) ≤ length out
+-- an accepted unit's record, written by itself, is the content of its message, where nothing was passed over in it: demand 2 of the unwrapped message
+pub our-message-writes-back : (u : List ℕ) → Bytes u → readUnit u .result ≡ 0 → readUnit u .skipped ≡ 0 → (m : Message) × HoldsOurs u m × ((out : List ℕ) → length (m .content) ≤ length out
     → (writeWrapped (readUnit u .«record») out ≡ written 0 (length (m .content))) × (wrappedBuffer (readUnit u .«record») out ≡ m .content ++ drop (length (m .content)) out))
-our-message-writes-back u h e = go (else-ours-decides u h 0 e (omega arith))
+our-message-writes-back u h e none = go (else-ours-decides u h 0 e (omega arith))
   where
     go : (m : Message) × HoldsOurs u m × (readUnit u ≡ readWrapped (m .content)) → (m : Message) × HoldsOurs u m × ((out : List ℕ) → length (m .content) ≤ length out
         → (writeWrapped (readUnit u .«record») out ≡ written 0 (length (m .content))) × (wrappedBuffer (readUnit u .«record») out ≡ m .content ++ drop (length (m .content)) out))
@@ -245,8 +251,16 @@ our-message-writes-back u h e = go (else-ours-decides u h 0 e (omega arith))
           m,
           t,
           λ out l. subst (λ (r : Record). (writeWrapped r out ≡ written 0 (length (m .content))) × (wrappedBuffer r out ≡ m .content ++ drop (length (m .content)) out)) (sym same)
-              (accepted-wrapped-writes-back (m .content) b (sym (ap (λ (x : Reading). x .result) q) ∙ e) out l),
+              (accepted-wrapped-writes-back (m .content) b (sym (ap (λ (x : Reading). x .result) q) ∙ e) (sym (ap (λ (x : Reading). x .skipped) q) ∙ none) out l),
         )
+
+-- and whatever was passed over, a unit rewritten from its record reads to the same record with none passed over
+pub a-rewritten-unit-reads-to-the-same-record : (u : List ℕ) → Bytes u → readUnit u .result ≡ 0 → (out : List ℕ) → length (unitBytes (readUnit u .«record»)) ≤ length out
+    → readUnit (take (writeUnit (readUnit u .«record») out .bytes) (unitBuffer (readUnit u .«record») out)) ≡ plainReading (readUnit u .«record»)
+a-rewritten-unit-reads-to-the-same-record u h e out l =
+    let a = an-accepted-unit-holds-its-data u h e in
+    let p : Proper (readUnit u .«record») = rw (a .2) (the-record-is-valid (a .0) (a .1 .fits)) in
+    a-written-unit-reads-back (readUnit u .«record») out p l
 
 -- 354 bytes always suffice
 pub room-of-354-suffices-for-a-unit : (r : Record) (out : List ℕ) → Proper r → 354 ≤ length out → writeUnit r out .result ≡ 0
@@ -290,13 +304,13 @@ a-unit-gets-a-listed-number u h = go (one-of-five u h)
     go (inr (inr (inr (inr (m, t))))) =
         at (readBare (drop 8 (m .content))) (ours-is-read u h m t ∙ our-message-is-read-as-data m (t .first .ours)) (further (readBare (drop 8 (m .content)) .result) (bare-data-gets-a-listed-number (drop 8 (m .content))))
 
-pub a-refused-unit-is-empty : (u : List ℕ) → Bytes u → (readUnit u .result ≡ 0 → ⊥) → (readUnit u .«record» ≡ emptyRecord) × (readUnit u .bits ≡ 0)
+pub a-refused-unit-is-empty : (u : List ℕ) → Bytes u → (readUnit u .result ≡ 0 → ⊥) → (readUnit u .«record» ≡ emptyRecord) × (readUnit u .bits ≡ 0) × (readUnit u .skipped ≡ 0)
 a-refused-unit-is-empty u h n = go (one-of-five u h)
   where
-    empty : (k : ℕ) → readUnit u ≡ refusedReading k → (readUnit u .«record» ≡ emptyRecord) × (readUnit u .bits ≡ 0)
-    empty k e = (ap (λ (q : Reading). q .«record») e, ap (λ (q : Reading). q .bits) e)
+    empty : (k : ℕ) → readUnit u ≡ refusedReading k → (readUnit u .«record» ≡ emptyRecord) × (readUnit u .bits ≡ 0) × (readUnit u .skipped ≡ 0)
+    empty k e = (ap (λ (q : Reading). q .«record») e, ap (λ (q : Reading). q .bits) e, ap (λ (q : Reading). q .skipped) e)
 
-    go : Thirty u ⊎ (ThirtyOne u ⊎ (ThirtyTwo u ⊎ (ThirtyThree u ⊎ ((m : Message) × HoldsOurs u m)))) → (readUnit u .«record» ≡ emptyRecord) × (readUnit u .bits ≡ 0)
+    go : Thirty u ⊎ (ThirtyOne u ⊎ (ThirtyTwo u ⊎ (ThirtyThree u ⊎ ((m : Message) × HoldsOurs u m)))) → (readUnit u .«record» ≡ emptyRecord) × (readUnit u .bits ≡ 0) × (readUnit u .skipped ≡ 0)
     go (inl t) = empty 30 (gets-30 u t)
     go (inr (inl t)) = empty 31 (gets-31 u h t)
     go (inr (inr (inl t))) = empty 32 (gets-32 u h t)
@@ -304,4 +318,4 @@ a-refused-unit-is-empty u h n = go (one-of-five u h)
     go (inr (inr (inr (inr (m, t))))) =
         let e = ours-is-read u h m t in
         let r = a-refusal-is-empty (wrappedData (bitsOf (m .content))) (λ z. n (ap (λ (q : Reading). q .result) e ∙ z)) in
-        (ap (λ (q : Reading). q .«record») e ∙ r .0, ap (λ (q : Reading). q .bits) e ∙ r .1)
+        (ap (λ (q : Reading). q .«record») e ∙ r .0, ap (λ (q : Reading). q .bits) e ∙ r .1, ap (λ (q : Reading). q .skipped) e ∙ r .2)

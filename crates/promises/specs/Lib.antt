@@ -1,2 +1,3 @@
 pub mod Joins
 pub mod Units
+pub mod Payloads

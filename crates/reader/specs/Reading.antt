@@ -1,7 +1,7 @@
 -- What reading answers, and on the way to it; and the table as far as the last block.
 use Prim.Native.Nat.{ℕ}
 use mathlib.Core.List.{List, []}
-use mathlib.Core.Bool.{true, false}
+use mathlib.Core.Bool.{Bool, true, false}
 use Rattle.refusals.specs.declared.Refusal.{Refusal}
 use Rattle.refusals.specs.Refusals.{refusal}
 use Rattle.tree.specs.Bits.{bitsOf}
@@ -11,38 +11,54 @@ use Rattle.record.specs.declared.Record.{Record}
 use Rattle.record.specs.Name.{Name}
 use Rattle.record.specs.Made.{recordOf}
 use Rattle.record.specs.Blocks.{emptyRecord}
-use Rattle.syntax.specs.Data.{blocksAfter, bareData}
+use Rattle.syntax.specs.Data.{Item, keptIn, passedIn, Data, recordFrom, blocksAfter, bareData}
 use Rattle.head.specs.Opening.{opening}
 use Rattle.reader.specs.declared.Found.{Found}
 use Rattle.reader.specs.declared.Reading.{Reading}
 
--- 01, The record: an accepted reading gives the record and the bits read; on a refusal these are the empty record and 0
+-- 01, The record: an accepted reading gives the record and the bits read, and by 02, b the number of blocks passed over; on a refusal these are the empty record, 0 and 0
 abbrev pub refusedReading : ℕ → Reading
-refusedReading k = record { result = k; bits = 0; «record» = emptyRecord }
+refusedReading k = record { result = k; bits = 0; skipped = 0; «record» = emptyRecord }
 
-abbrev pub readingOf : Out Name Record → Reading
-readingOf (ok r n) = record { result = 0; bits = n; «record» = r }
+abbrev pub readingOf : Out Name Data → Reading
+readingOf (ok d n) = record { result = 0; bits = n; skipped = passedIn (d .items); «record» = recordFrom d }
 readingOf (no f) = refusedReading (numberIn f)
 
 -- what read_data answers
 abbrev pub readBare : List ℕ → Reading
 readBare s = readingOf (bareData (bitsOf s))
 
+-- ---- on the way to it
+
+-- what is shown of blocks: the record of the known ones, and how many are passed over
+pub record Shown : Type 0 where
+  pub «record» : Record
+  pub skipped : ℕ
+
+abbrev pub shown : Record → ℕ → Shown
+shown r n = record { «record» = r; skipped = n }
+
+abbrev pub shownOf : Bool → List Item → Shown
+shownOf flag is = shown (recordOf flag (keptIn is)) (passedIn is)
+
+abbrev pub shownIn : Data → Shown
+shownIn d = shownOf (d .refresh) (d .items)
+
 -- no refusal
 abbrev pub nothingWrong : Refusal
 nothingWrong = refusal 0
 
--- a record that was found, or why there is none; beside a refusal the record is empty and the width 0
+-- a record that was found, or why there is none; beside a refusal the record is empty, the width 0 and nothing passed over
 abbrev pub refusedFound : Refusal → Found
-refusedFound q = record { ok = false; why = q; width = 0; «record» = emptyRecord }
+refusedFound q = record { ok = false; why = q; width = 0; skipped = 0; «record» = emptyRecord }
 
-abbrev pub foundOf : Out Name Record → Found
-foundOf (ok r n) = record { ok = true; why = nothingWrong; width = n; «record» = r }
+abbrev pub foundOf : Out Name Shown → Found
+foundOf (ok x n) = record { ok = true; why = nothingWrong; width = n; skipped = x .skipped; «record» = x .«record» }
 foundOf (no f) = refusedFound (refusal (numberIn f))
 
 -- what stands before the blocks, and the blocks
-unfoldable pub headAndBlocks : Syntax Name Record
+unfoldable pub headAndBlocks : Syntax Name Shown
 headAndBlocks = do
   h ← opening
-  bs ← blocksAfter [] (h .count)
-  done (recordOf (h .refresh) bs)
+  is ← blocksAfter [] (h .count)
+  done (shownOf (h .refresh) is)

@@ -34,11 +34,7 @@ tooManyBlocks = 6
 abbrev pub notZero : ℕ
 notZero = 7
 
--- level is not 1, 2 or 5
-abbrev pub unknownLevel : ℕ
-unknownLevel = 8
-
--- length is not the level's
+-- length is not the level's, or, of a reserved level, above 1,023 bytes (02, b: 8, a level that is not 1, 2 or 5, no longer occurs)
 abbrev pub wrongLength : ℕ
 wrongLength = 9
 

@@ -20,8 +20,7 @@ impl Refusal {
 
     pub const NOT_ZERO: u8 = 7;
 
-    pub const UNKNOWN_LEVEL: u8 = 8;
-
+    // 8, a level other than 1, 2 and 5, no longer occurs: such blocks are passed over.
     pub const WRONG_LENGTH: u8 = 9;
 
     pub const NOT_IN_ORDER: u8 = 10;

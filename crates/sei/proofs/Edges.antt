@@ -11,7 +11,8 @@ use Rattle.tree.specs.Syntax.{read, _>>=_, row, zeroBits, readWhole}
 use Rattle.tree.specs.Wrapper.{wrapperTable}
 use Rattle.tree.specs.Coding.{totalWidth}
 use Rattle.valid.specs.Valid.{many, targets}
-use Rattle.syntax.specs.Data.{blockCount, head, content, wholeBlock, block, blocksAfter, «ST2094-10_data»}
+use Rattle.record.specs.Made.{recordOf}
+use Rattle.syntax.specs.Data.{blockCount, head, content, reservedContent, wholeBlock, block, keptIn, passedIn, blocksAfter, «ST2094-10_data»}
 use Rattle.wrapper.specs.Wrapper.{beginsWith}
 use Rattle.emulation.specs.Emulation.{removedBehind, forbidden}
 use Rattle.rbsp.specs.Message.{chain, frameOf, messagesWithin, firstOfOurs}
@@ -96,6 +97,11 @@ units =
 pub each-unit-gets-its-number : map (λ (c : Case). readUnit (c .bytes) .result) units ≡ map (λ (c : Case). c .number) units
 unfolding bitsOf code valueFrom u i ue zerosThenOne amongZ totalWidth read _>>=_ row zeroBits readWhole many targets blockCount head content wholeBlock block blocksAfter «ST2094-10_data» wrapperTable beginsWith removedBehind forbidden chain frameOf messagesWithin firstOfOurs
 each-unit-gets-its-number = refl
+
+-- 02, b: a reserved block in our message is passed over, and counted
+pub a-reserved-block-in-a-unit : readUnit (0x4E ∷ 0x01 ∷ 0x04 ∷ 0x0B ∷ 0xB5 ∷ 0x00 ∷ 0x31 ∷ 0x47 ∷ 0x41 ∷ 0x39 ∷ 0x34 ∷ 0x09 ∷ 0x5A ∷ 0x81 ∷ 0x80 ∷ 0x80 ∷ []) ≡ record { result = 0; bits = 24; skipped = 1; «record» = recordOf true [] }
+unfolding bitsOf code valueFrom u i ue zerosThenOne amongZ totalWidth read _>>=_ row zeroBits readWhole many targets blockCount head content reservedContent wholeBlock block keptIn passedIn blocksAfter «ST2094-10_data» wrapperTable beginsWith removedBehind forbidden chain frameOf messagesWithin firstOfOurs
+a-reserved-block-in-a-unit = refl
 
 -- 4,096 bytes are admitted and 4,097 are not
 pub the-length-in-numbers : (admitted (0x4E ∷ 0x01 ∷ replicate 4094 0x55) ≡ true) × (admitted (0x4E ∷ 0x01 ∷ replicate 4095 0x55) ≡ false)

@@ -1,7 +1,9 @@
 pub mod Limits
 pub mod Field
 pub mod Blocks
+pub mod Items
 pub mod Exact
+pub mod Records
 pub mod Largest
 pub mod Reasons
 pub mod Stands

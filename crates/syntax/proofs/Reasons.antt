@@ -20,17 +20,15 @@ use Rattle.tree.proofs.Breaks.{breaks-done, breaks-any, breaks-if, breaks-behin
 use Rattle.tree.proofs.Reasons.{reason-is-true, true-reason-is-given}
 use Rattle.record.specs.declared.Block.{Block}
 use Rattle.record.specs.declared.Block.the-variants.{Nothing, Level1, Level2, Level5}
-use Rattle.record.specs.declared.Record.{Record}
 use Rattle.record.specs.Name.{Name, «app_identifier», «app_version», «metadata_refresh_flag», «num_ext_blocks», «dm_alignment_zero_bit», «ext_block_length», «ext_block_level», «ext_dm_alignment_zero_bit», «end»}
-use Rattle.record.specs.Level.{padding, fieldsOf}
-use Rattle.record.specs.Made.{recordOf}
-use Rattle.record.specs.Blocks.{mostBlocks}
-use Rattle.valid.specs.Valid.{among, validBlock}
-use Rattle.syntax.specs.Data.{announced, blockCount, head, blockOf, knownRule, lengthRule, averageRule, orderRules, surplusRule, targetRule, mayFollowRules, content, wholeBlock, block, blocksAfter, firstAlignment, «ST2094-10_data», bareData}
-use Rattle.syntax.specs.Element.{blockElements, blocksElements}
-use Rattle.syntax.specs.Reason.{About, identifier, version, count, alignmentBit, blockAlignmentBit, unknown, otherLength, average, surplus, target, Speaks, Named, Reason, ruleNumbers, dataNumbers}
-use Rattle.syntax.proofs.Blocks.{afterLevel, afterLength, behind, whole-block-only, block-only}
-use Rattle.syntax.proofs.Exact.{afterFlag, afterVersion, afterIdentifier, lastly, afterFirst, afterHead}
+use Rattle.record.specs.Level.{known, padding, fieldsOf}
+use Rattle.valid.specs.Valid.{among}
+use Rattle.syntax.specs.Data.{mostAnnounced, announced, blockCount, head, Item, kept, passed, keptIn, Data, blockOf, lengthRule, averageRule, orderRules, surplusRule, targetRule, mayFollowRules, content, reservedBits, reservedContent, wholeBlock, block, blocksAfter, firstAlignment, «ST2094-10_data», bareData}
+use Rattle.syntax.specs.Element.{blockElements, itemElements, itemsElements, itemFits}
+use Rattle.syntax.specs.Reason.{About, identifier, version, count, alignmentBit, blockAlignmentBit, otherLength, average, surplus, target, Speaks, Named, Reason, ruleNumbers, dataNumbers}
+use Rattle.syntax.proofs.Blocks.{afterFields, contentOf, afterLevel, afterLength, whole-block-only, block-only}
+use Rattle.syntax.proofs.Items.{behind}
+use Rattle.syntax.proofs.Exact.{afterFlag, afterVersion, afterIdentifier, holding, lastly, afterFirst, afterHead}
 
 -- what is said of a rule stays true behind earlier elements
 grow-about : (es earlier theirs : List (Element Name)) (r : Rule Name) → About earlier theirs r → About (es ++ earlier) theirs r
@@ -39,12 +37,11 @@ grow-about es earlier theirs r (version at z) = version at z
 grow-about es earlier theirs r (count at z) = count at z
 grow-about es earlier theirs r (alignmentBit at z) = alignmentBit at z
 grow-about es earlier theirs r (blockAlignmentBit at z) = blockAlignmentBit at z
-grow-about es earlier theirs r (unknown at z) = unknown at z
 grow-about es earlier theirs r (otherLength at n l) = otherLength at n l
 grow-about es earlier theirs r (average at min max avg) = average at min max avg
-grow-about es earlier theirs r (surplus at b opening bs e f) = surplus at b (es ++ opening) bs (ap (λ (l : List (Element Name)). es ++ l) e ∙ sym (append-assoc es opening (blocksElements bs))) f
-grow-about es earlier theirs r (target at t s o p c g m opening bs e f h) =
-    target at t s o p c g m (es ++ opening) bs (ap (λ (l : List (Element Name)). es ++ l) e ∙ sym (append-assoc es opening (blocksElements bs))) f h
+grow-about es earlier theirs r (surplus at b opening is e f) = surplus at b (es ++ opening) is (ap (λ (l : List (Element Name)). es ++ l) e ∙ sym (append-assoc es opening (itemsElements is))) f
+grow-about es earlier theirs r (target at t s o p c g m opening is e f h) =
+    target at t s o p c g m (es ++ opening) is (ap (λ (l : List (Element Name)). es ++ l) e ∙ sym (append-assoc es opening (itemsElements is))) f h
 
 grow : (at : ℕ) (es fs : List (Element Name)) (r : Rule Name) → Speaks (at + sumOfWidths es) fs r → Speaks at (es ++ fs) r
 grow at es fs r k = record {
@@ -77,44 +74,44 @@ module _ {B : Type 0} (at : ℕ) (es : List (Element Name)) (g : Unit {0} → Sy
 the-content : (l : ℕ) → Breaks Speaks (content l)
 unfolding content
 the-content l =
-    breaks-then Speaks grow (row (fieldsOf l)) (λ zs. zeroBits «ext_dm_alignment_zero_bit» (padding l) >>= λ z. done (blockOf l zs)) (breaks-row Speaks grow (fieldsOf l))
-    (λ zs. breaks-then Speaks grow (zeroBits «ext_dm_alignment_zero_bit» (padding l)) (λ z. done (blockOf l zs)) (breaks-zeros Speaks grow «ext_dm_alignment_zero_bit» (λ at z. begins at _ _ refl (blockAlignmentBit at z)) (padding l)) (λ z. breaks-done Speaks (blockOf l zs)))
+    breaks-then Speaks grow (row (fieldsOf l)) (afterFields l) (breaks-row Speaks grow (fieldsOf l))
+    (λ zs. breaks-then Speaks grow (zeroBits «ext_dm_alignment_zero_bit» (padding l)) (λ z. done (kept (blockOf l zs))) (breaks-zeros Speaks grow «ext_dm_alignment_zero_bit» (λ at z. begins at _ _ refl (blockAlignmentBit at z)) (padding l)) (λ z. breaks-done Speaks (kept (blockOf l zs))))
 
--- 8 is about the level, 9 about the length, which begins where the block does
+-- no rule is about a bit of a reserved block
+the-reserved-content : (l n : ℕ) → Breaks Speaks (reservedContent l n)
+unfolding reservedContent
+the-reserved-content l n = breaks-then Speaks grow (row (reservedBits n)) (λ zs. done (passed l n zs)) (breaks-row Speaks grow (reservedBits n)) (λ zs. breaks-done Speaks (passed l n zs))
+
+any-content : (l n : ℕ) → Breaks Speaks (contentOf l n)
+any-content l n = breaks-if Speaks (known l) (content l) (reservedContent l n) (the-content l) (the-reserved-content l n)
+
+-- 9 is about the length, which begins where the block does
 module _ (at : ℕ) (r : Rule Name) where
-  abbrev lengthOf : ℤ → List (Element Name)
-  lengthOf n = element «ext_block_length» variable n ∷ []
-
   abbrev lengthAndLevel : ℤ → ℤ → List (Element Name)
   lengthAndLevel n l = element «ext_block_length» variable n ∷ element «ext_block_level» (fixed (unsigned 8)) l ∷ []
 
-  ruled : (n l : ℤ) (fs : List (Element Name)) → Follow (afterLevel at n (at + widthIn variable n) l) (at + widthIn variable n + 8) fs (broken r) → Speaks at (lengthAndLevel n l ++ fs) r
+  ruled : (n l : ℤ) (fs : List (Element Name)) → Follow (afterLevel at n l) (at + widthIn variable n + 8) fs (broken r) → Speaks at (lengthAndLevel n l ++ fs) r
   unfolding sumOfWidths
   ruled n l fs k =
       let p = at + widthIn variable n in
       let w : p + 8 ≡ at + sumOfWidths (lengthAndLevel n l) = omega arith in
-      let e : p ≡ at + sumOfWidths (lengthOf n) = omega arith in
-      let level : Speaks p (element «ext_block_level» (fixed (unsigned 8)) l ∷ []) (knownRule p l) = begins p _ (knownRule p l) refl (unknown p l) in
-      one-rule at (lengthAndLevel n l) (λ known. must (lengthRule at n (natural l)) >>= λ own. content (natural l)) (p + 8) fs r (knownRule p l)
-      (grow at (lengthOf n) (element «ext_block_level» (fixed (unsigned 8)) l ∷ []) (knownRule p l) (moved p (at + sumOfWidths (lengthOf n)) e level)) k
-      (λ met j. one-rule at (lengthAndLevel n l) (λ own. content (natural l)) (p + 8) fs r (lengthRule at n (natural l)) (begins at (lengthAndLevel n l) (lengthRule at n (natural l)) refl (otherLength at n l)) j
-      (λ own i. grow at (lengthAndLevel n l) fs r (moved (p + 8) (at + sumOfWidths (lengthAndLevel n l)) w (the-content (natural l) (p + 8) fs r i))))
+      one-rule at (lengthAndLevel n l) (λ own. contentOf (natural l) (natural n)) (p + 8) fs r (lengthRule at n (natural l)) (begins at (lengthAndLevel n l) (lengthRule at n (natural l)) refl (otherLength at n l)) k
+      (λ own i. grow at (lengthAndLevel n l) fs r (moved (p + 8) (at + sumOfWidths (lengthAndLevel n l)) w (any-content (natural l) (natural n) (p + 8) fs r i)))
     where
       moved : {es : List (Element Name)} {q : Rule Name} (x y : ℕ) → x ≡ y → Speaks x es q → Speaks y es q
       moved x y e h = rw (← e) h
 
   second : (n : ℤ) (es : List (Element Name))
-      → ((es ≡ []) × (_≡_ {A = Next Name Block} (broken r) (awaits «ext_block_level» (fixed (unsigned 8))))) ⊎ Goes «ext_block_level» (fixed (unsigned 8)) (afterLevel at n (at + widthIn variable n)) (at + widthIn variable n) es (broken r)
+      → ((es ≡ []) × (_≡_ {A = Next Name Item} (broken r) (awaits «ext_block_level» (fixed (unsigned 8))))) ⊎ Goes «ext_block_level» (fixed (unsigned 8)) (afterLevel at n) (at + widthIn variable n) es (broken r)
       → Speaks at (element «ext_block_length» variable n ∷ es) r
   second n es (inl k) = let q = k .1 in let z : _≡_ {A = ℕ} 0 1 = cc in clash z
   second n es (inr k) = rw (k .all) (ruled n (k .value) (k .rest) (k .on))
 
-  first : (es : List (Element Name)) → ((es ≡ []) × (_≡_ {A = Next Name Block} (broken r) (awaits «ext_block_length» variable))) ⊎ Goes «ext_block_length» variable (afterLength at) at es (broken r) → Speaks at es r
-  unfolding Follow _>>=_
+  first : (es : List (Element Name)) → ((es ≡ []) × (_≡_ {A = Next Name Item} (broken r) (awaits «ext_block_length» variable))) ⊎ Goes «ext_block_length» variable (afterLength at) at es (broken r) → Speaks at es r
   first es (inl k) = let q = k .1 in let z : _≡_ {A = ℕ} 0 1 = cc in clash z
   first es (inr k) =
       let there = at + widthIn variable (k .value) in
-      let m = any-apart «ext_block_level» (fixed (unsigned 8)) (afterLevel at (k .value) there) there (k .rest) (broken r) (k .on) in
+      let m = any-apart «ext_block_level» (fixed (unsigned 8)) (afterLevel at (k .value)) there (k .rest) (broken r) (k .on) in
       rw (k .all) (second (k .value) (k .rest) m)
 
 whole-block : (at : ℕ) → BreaksAt Speaks at (wholeBlock at)
@@ -123,101 +120,114 @@ whole-block at es r h = first at r es (any-apart «ext_block_length» variable (
 
 -- 10
 module _ {B : Type 0} (at : ℕ) (g : Unit {0} → Syntax Name B) (there : ℕ) (fs : List (Element Name)) (r : Rule Name) where
-  order-broken : (b : Block) → Follow (orderRules at b >>= g) there fs (broken r) → (Follow (g tt) there fs (broken r) → Speaks at (blockElements b ++ fs) r) → Speaks at (blockElements b ++ fs) r
+  order-broken : (i : Item) → Follow (orderRules at i >>= g) there fs (broken r) → (Follow (g tt) there fs (broken r) → Speaks at (itemElements i ++ fs) r) → Speaks at (itemElements i ++ fs) r
   unfolding _>>=_
-  order-broken Nothing h on = on h
-  order-broken (Level1 min max avg) h on =
+  order-broken (kept Nothing) h on = on h
+  order-broken (kept (Level1 min max avg)) h on =
       one-rule at (blockElements (Level1 min max avg)) g there fs r (averageRule at min max avg) (begins at (blockElements (Level1 min max avg)) (averageRule at min max avg) refl (average at min max avg)) h (λ q. on)
-  order-broken (Level2 t s o p c w m) h on = on h
-  order-broken (Level5 l r t b) h on = on h
+  order-broken (kept (Level2 t s o p c w m)) h on = on h
+  order-broken (kept (Level5 l r t b)) h on = on h
+  order-broken (passed l n zs) h on = on h
 
 one-block : (at : ℕ) → BreaksAt Speaks at block
 unfolding block Follow _>>=_
 one-block at =
-    breaks-behind Speaks at (wholeBlock at) (λ b. orderRules at b >>= λ o. done b) (whole-block at)
-    (λ es fs b r h k. rw (whole-block-only at at es b h .1) (order-broken at (λ o. done b) (at + sumOfWidths es) fs r b k (λ d. breaks-done (λ x y z. Speaks at (blockElements b ++ fs) r) b (at + sumOfWidths es) fs r d)))
+    breaks-behind Speaks at (wholeBlock at) (λ i. orderRules at i >>= λ o. done i) (whole-block at)
+    (λ es fs i r h k. rw (whole-block-only at at es i h .1) (order-broken at (λ o. done i) (at + sumOfWidths es) fs r i k (λ d. breaks-done (λ x y z. Speaks at (itemElements i ++ fs) r) i (at + sumOfWidths es) fs r d)))
 
--- 11, behind the blocks before the block
-module _ (from : ℕ) (bs : List Block) where
+-- 11, behind the blocks before the block, of which the known ones count
+module _ (from : ℕ) (is : List Item) where
   abbrev start : ℕ
-  start = from + sumOfWidths (blocksElements bs)
+  start = from + sumOfWidths (itemsElements is)
 
-  behind-blocks : (b : Block) (q : Rule Name) → q .offset ≡ start → About (blocksElements bs) (blockElements b) q → Speaks from (blocksElements bs ++ blockElements b) q
-  behind-blocks b q o h = record { earlier = blocksElements bs; theirs = blockElements b; all = refl; offset = o; about = h }
+  behind-blocks : (b : Block) (q : Rule Name) → q .offset ≡ start → About (itemsElements is) (blockElements b) q → Speaks from (itemsElements is ++ blockElements b) q
+  behind-blocks b q o h = record { earlier = itemsElements is; theirs = blockElements b; all = refl; offset = o; about = h }
 
   module _ {B : Type 0} (g : Unit {0} → Syntax Name B) (there : ℕ) (fs : List (Element Name)) (r : Rule Name) where
-    follow-broken : (b : Block) → validBlock b ≡ true → Follow (mayFollowRules start bs b >>= g) there fs (broken r)
-        → (Follow (g tt) there fs (broken r) → Speaks from ((blocksElements bs ++ blockElements b) ++ fs) r) → Speaks from ((blocksElements bs ++ blockElements b) ++ fs) r
+    follow-broken : (i : Item) → itemFits i ≡ true → Follow (mayFollowRules start (keptIn is) i >>= g) there fs (broken r)
+        → (Follow (g tt) there fs (broken r) → Speaks from ((itemsElements is ++ itemElements i) ++ fs) r) → Speaks from ((itemsElements is ++ itemElements i) ++ fs) r
     unfolding _>>=_
-    follow-broken Nothing f h on = on h
-    follow-broken (Level1 min max avg) f h on =
-        one-rule from (blocksElements bs ++ blockElements (Level1 min max avg)) g there fs r (surplusRule start bs 1)
-        (behind-blocks (Level1 min max avg) (surplusRule start bs 1) refl (surplus start (Level1 min max avg) [] bs refl f)) h (λ q. on)
-    follow-broken (Level2 t s o p c w m) f h on =
-        let q = targetRule start bs t in
-        one-rule from (blocksElements bs ++ blockElements (Level2 t s o p c w m)) (λ u. must q >>= g) there fs r (surplusRule start bs 2)
-        (behind-blocks (Level2 t s o p c w m) (surplusRule start bs 2) refl (surplus start (Level2 t s o p c w m) [] bs refl f)) h
-        (λ room k. one-rule from (blocksElements bs ++ blockElements (Level2 t s o p c w m)) g there fs r q (behind-blocks (Level2 t s o p c w m) q refl (target start t s o p c w m [] bs refl f room)) k (λ q. on))
-    follow-broken (Level5 l y t b) f h on =
-        one-rule from (blocksElements bs ++ blockElements (Level5 l y t b)) g there fs r (surplusRule start bs 5)
-        (behind-blocks (Level5 l y t b) (surplusRule start bs 5) refl (surplus start (Level5 l y t b) [] bs refl f)) h (λ q. on)
+    follow-broken (kept Nothing) f h on = on h
+    follow-broken (kept (Level1 min max avg)) f h on =
+        one-rule from (itemsElements is ++ blockElements (Level1 min max avg)) g there fs r (surplusRule start (keptIn is) 1)
+        (behind-blocks (Level1 min max avg) (surplusRule start (keptIn is) 1) refl (surplus start (Level1 min max avg) [] is refl f)) h (λ q. on)
+    follow-broken (kept (Level2 t s o p c w m)) f h on =
+        let q = targetRule start (keptIn is) t in
+        one-rule from (itemsElements is ++ blockElements (Level2 t s o p c w m)) (λ u. must q >>= g) there fs r (surplusRule start (keptIn is) 2)
+        (behind-blocks (Level2 t s o p c w m) (surplusRule start (keptIn is) 2) refl (surplus start (Level2 t s o p c w m) [] is refl f)) h
+        (λ room k. one-rule from (itemsElements is ++ blockElements (Level2 t s o p c w m)) g there fs r q (behind-blocks (Level2 t s o p c w m) q refl (target start t s o p c w m [] is refl f room)) k (λ q. on))
+    follow-broken (kept (Level5 l y t b)) f h on =
+        one-rule from (itemsElements is ++ blockElements (Level5 l y t b)) g there fs r (surplusRule start (keptIn is) 5)
+        (behind-blocks (Level5 l y t b) (surplusRule start (keptIn is) 5) refl (surplus start (Level5 l y t b) [] is refl f)) h (λ q. on)
+    follow-broken (passed l n zs) f h on = on h
 
 -- ---- the blocks, and the whole table
 
 -- one block more
-pub blocks-elements-more : (bs : List Block) (b : Block) → blocksElements (bs ++ (b ∷ [])) ≡ blocksElements bs ++ blockElements b
-unfolding blocksElements
-blocks-elements-more [] b = append-nil (blockElements b)
-blocks-elements-more (x ∷ bs) b = ap (λ (l : List (Element Name)). blockElements x ++ l) (blocks-elements-more bs b) ∙ sym (append-assoc (blockElements x) (blocksElements bs) (blockElements b))
+items-elements-more : (is : List Item) (i : Item) → itemsElements (is ++ (i ∷ [])) ≡ itemsElements is ++ itemElements i
+unfolding itemsElements
+items-elements-more [] i = append-nil (itemElements i)
+items-elements-more (x ∷ is) i = ap (λ (l : List (Element Name)). itemElements x ++ l) (items-elements-more is i) ∙ sym (append-assoc (itemElements x) (itemsElements is) (itemElements i))
+
+pub kept-more : (is : List Item) (i : Item) → keptIn (is ++ (i ∷ [])) ≡ keptIn is ++ keptIn (i ∷ [])
+unfolding keptIn
+kept-more [] i = refl
+kept-more (kept b ∷ is) i = ap (λ (l : List Block). b ∷ l) (kept-more is i)
+kept-more (passed l n zs ∷ is) i = kept-more is i
 
 -- a rule of n further blocks behind blocks that are complete
 abbrev Further : ℕ → Type 0
-Further n = (from : ℕ) (bs : List Block) (es : List (Element Name)) (r : Rule Name) → Follow (blocksAfter bs n) (from + sumOfWidths (blocksElements bs)) es (broken r) → Speaks from (blocksElements bs ++ es) r
+Further n = (from : ℕ) (is : List Item) (es : List (Element Name)) (r : Rule Name) → Follow (blocksAfter (keptIn is) n) (from + sumOfWidths (itemsElements is)) es (broken r) → Speaks from (itemsElements is ++ es) r
 
 -- behind a block that is complete: its rules, then the further blocks
-more-blocks : (n : ℕ) → Further n → (from : ℕ) (bs : List Block) (es fs : List (Element Name)) (b : Block) (r : Rule Name) → validBlock b ≡ true → es ≡ blockElements b
-    → Follow (behind (from + sumOfWidths (blocksElements bs)) bs n b) (from + sumOfWidths (blocksElements bs) + sumOfWidths es) fs (broken r)
-    → Speaks from (blocksElements bs ++ (es ++ fs)) r
-more-blocks n ih from bs es fs b r fits e k =
-    let there = from + sumOfWidths (blocksElements bs) + sumOfWidths es in
-    let rest = blocksAfter (bs ++ (b ∷ [])) n in
-    let w : there ≡ from + sumOfWidths (blocksElements (bs ++ (b ∷ []))) = omega (arith, ap sumOfWidths e, ap sumOfWidths (blocks-elements-more bs b), widths-append (blocksElements bs) (blockElements b)) in
-    let last : Follow (rest >>= λ cs. done (b ∷ cs)) there fs (broken r) → Speaks from ((blocksElements bs ++ blockElements b) ++ fs) r = λ d. finish there w (apart-broken there d) in
-    rw (e, ← append-assoc (blocksElements bs) (blockElements b) fs)
-    (follow-broken from bs (λ o. rest >>= λ cs. done (b ∷ cs)) there fs r b fits k last)
+more-blocks : (n : ℕ) → Further n → (from : ℕ) (is : List Item) (es fs : List (Element Name)) (i : Item) (r : Rule Name) → itemFits i ≡ true → es ≡ itemElements i
+    → Follow (behind (from + sumOfWidths (itemsElements is)) (keptIn is) n i) (from + sumOfWidths (itemsElements is) + sumOfWidths es) fs (broken r)
+    → Speaks from (itemsElements is ++ (es ++ fs)) r
+more-blocks n ih from is es fs i r fits e k =
+    let there = from + sumOfWidths (itemsElements is) + sumOfWidths es in
+    let rest = blocksAfter (keptIn is ++ keptIn (i ∷ [])) n in
+    let w : there ≡ from + sumOfWidths (itemsElements (is ++ (i ∷ []))) = omega (arith, ap sumOfWidths e, ap sumOfWidths (items-elements-more is i), widths-append (itemsElements is) (itemElements i)) in
+    let last : Follow (rest >>= λ js. done (i ∷ js)) there fs (broken r) → Speaks from ((itemsElements is ++ itemElements i) ++ fs) r = λ d. finish there w (apart-broken there d) in
+    rw (e, ← append-assoc (itemsElements is) (itemElements i) fs)
+    (follow-broken from is (λ o. rest >>= λ js. done (i ∷ js)) there fs r i fits k last)
   where
-    apart-broken : (there : ℕ) → Follow (blocksAfter (bs ++ (b ∷ [])) n >>= λ cs. done (b ∷ cs)) there fs (broken r) → Follow (blocksAfter (bs ++ (b ∷ [])) n) there fs (broken r)
-    apart-broken there d =
-        breaks-behind (λ at gs q. Follow (blocksAfter (bs ++ (b ∷ [])) n) there gs (broken q)) there (blocksAfter (bs ++ (b ∷ [])) n) (λ cs. done (b ∷ cs))
-        (λ gs q h. h) (λ es gs cs q h m. breaks-done (λ x y z. Follow (blocksAfter (bs ++ (b ∷ [])) n) there (es ++ gs) (broken q)) (b ∷ cs) (there + sumOfWidths es) gs q m) fs r d
+    further : Syntax Name (List Item)
+    further = blocksAfter (keptIn is ++ keptIn (i ∷ [])) n
 
-    finish : (there : ℕ) → there ≡ from + sumOfWidths (blocksElements (bs ++ (b ∷ []))) → Follow (blocksAfter (bs ++ (b ∷ [])) n) there fs (broken r) → Speaks from ((blocksElements bs ++ blockElements b) ++ fs) r
-    finish there w d = rw (blocks-elements-more bs b) at (ih from (bs ++ (b ∷ [])) fs r (rw w at d))
+    apart-broken : (there : ℕ) → Follow (further >>= λ js. done (i ∷ js)) there fs (broken r) → Follow further there fs (broken r)
+    apart-broken there d =
+        breaks-behind (λ at gs q. Follow further there gs (broken q)) there further (λ js. done (i ∷ js))
+        (λ gs q h. h) (λ es gs js q h m. breaks-done (λ x y z. Follow further there (es ++ gs) (broken q)) (i ∷ js) (there + sumOfWidths es) gs q m) fs r d
+
+    finish : (there : ℕ) → there ≡ from + sumOfWidths (itemsElements (is ++ (i ∷ []))) → Follow further there fs (broken r) → Speaks from ((itemsElements is ++ itemElements i) ++ fs) r
+    finish there w d =
+        let f : Follow (blocksAfter (keptIn (is ++ (i ∷ []))) n) there fs (broken r) = rw (kept-more is i) d in
+        rw (items-elements-more is i) at (ih from (is ++ (i ∷ [])) fs r (rw w at f))
 
 no-blocks : Further zero
 unfolding blocksAfter
-no-blocks from bs es r h = breaks-done (λ x y z. Speaks from (blocksElements bs ++ es) r) [] (from + sumOfWidths (blocksElements bs)) es r h
+no-blocks from is es r h = breaks-done (λ x y z. Speaks from (itemsElements is ++ es) r) [] (from + sumOfWidths (itemsElements is)) es r h
 
 some-blocks : (n : ℕ) → Further n → Further (suc n)
 unfolding blocksAfter Follow _>>=_
-some-blocks n ih from bs es r h =
-    let at = from + sumOfWidths (blocksElements bs) in
-    breaks-behind (λ x gs q. Speaks from (blocksElements bs ++ gs) q) at block (behind at bs n)
-    (λ gs q k. grow from (blocksElements bs) gs q (one-block at gs q k)) (λ fs gs b q k m. more-blocks n ih from bs fs gs b q (block-only at fs b k .0) (block-only at fs b k .1) m) es r h
+some-blocks n ih from is es r h =
+    let at = from + sumOfWidths (itemsElements is) in
+    breaks-behind (λ x gs q. Speaks from (itemsElements is ++ gs) q) at block (behind at (keptIn is) n)
+    (λ gs q k. grow from (itemsElements is) gs q (one-block at gs q k)) (λ fs gs i q k m. more-blocks n ih from is fs gs i q (block-only at fs i k .0) (block-only at fs i k .1) m) es r h
 
 all-blocks : (n : ℕ) → Further n
 all-blocks zero = no-blocks
 all-blocks (suc n) = some-blocks n (all-blocks n)
 
 the-blocks : (n : ℕ) → Breaks Speaks (blocksAfter [] n)
-unfolding blocksElements sumOfWidths
+unfolding keptIn itemsElements sumOfWidths
 the-blocks n at es r h = all-blocks n at [] es r (rw (add-zero at) h)
 
 the-count : Breaks Speaks blockCount
 unfolding blockCount
 the-count =
-    breaks-then Speaks grow (ranged «num_ext_blocks» variable tooManyBlocks (pos 0) (pos mostBlocks)) (λ n. done (announced true (natural n)))
-    (breaks-ranged Speaks «num_ext_blocks» variable tooManyBlocks (pos 0) (pos mostBlocks) (λ at z. begins at _ _ refl (count at z))) (λ n. breaks-done Speaks (announced true (natural n)))
+    breaks-then Speaks grow (ranged «num_ext_blocks» variable tooManyBlocks (pos 0) (pos mostAnnounced)) (λ n. done (announced true (natural n)))
+    (breaks-ranged Speaks «num_ext_blocks» variable tooManyBlocks (pos 0) (pos mostAnnounced) (λ at z. begins at _ _ refl (count at z))) (λ n. breaks-done Speaks (announced true (natural n)))
 
 the-head : Breaks Speaks head
 unfolding head
@@ -239,7 +249,7 @@ data-speaks =
     breaks-then Speaks grow head afterHead the-head
     (λ h. breaks-then Speaks grow (firstAlignment (h .count)) (λ y. afterFirst h) (breaks-if Speaks (eqb (h .count) 0) (done tt) (alignment «dm_alignment_zero_bit») (breaks-done Speaks tt) the-alignment)
     (λ y. breaks-then Speaks grow (blocksAfter [] (h .count)) (lastly h) (the-blocks (h .count))
-    (λ bs. breaks-then Speaks grow (alignment «dm_alignment_zero_bit») (λ z. done (recordOf (h .refresh) bs)) the-alignment (λ z. breaks-done Speaks (recordOf (h .refresh) bs)))))
+    (λ is. breaks-then Speaks grow (alignment «dm_alignment_zero_bit») (λ z. done (holding h is)) the-alignment (λ z. breaks-done Speaks (holding h is)))))
 
 -- THE THEOREM. Every refusal of bare data gives a true reason, and where a reason is true it is given.
 pub the-reason-is-true : (s : List Bool) (f : Fault Name) → bareData s ≡ no f → Reason s f
@@ -256,11 +266,10 @@ the-named-element-is-there earlier theirs r (version at z) = inl (refl, refl)
 the-named-element-is-there earlier theirs r (count at z) = inl (refl, refl)
 the-named-element-is-there earlier theirs r (alignmentBit at z) = inl (refl, refl)
 the-named-element-is-there earlier theirs r (blockAlignmentBit at z) = inl (refl, refl)
-the-named-element-is-there earlier theirs r (unknown at z) = inl (refl, refl)
 the-named-element-is-there earlier theirs r (otherLength at n l) = inl (refl, refl)
 the-named-element-is-there earlier theirs r (average at min max avg) = inr (inr (inr (inr (inl (refl, refl)))))
-the-named-element-is-there earlier theirs r (surplus at b opening bs e f) = inr (inl (refl, refl))
-the-named-element-is-there earlier theirs r (target at t s o p c g m opening bs e f h) = inr (inr (inl (refl, refl)))
+the-named-element-is-there earlier theirs r (surplus at b opening is e f) = inr (inl (refl, refl))
+the-named-element-is-there earlier theirs r (target at t s o p c g m opening is e f h) = inr (inr (inl (refl, refl)))
 
 -- ---- the numbers
 
@@ -272,11 +281,10 @@ listed earlier theirs r (version at z) = refl
 listed earlier theirs r (count at z) = refl
 listed earlier theirs r (alignmentBit at z) = refl
 listed earlier theirs r (blockAlignmentBit at z) = refl
-listed earlier theirs r (unknown at z) = refl
 listed earlier theirs r (otherLength at n l) = refl
 listed earlier theirs r (average at min max avg) = refl
-listed earlier theirs r (surplus at b opening bs e f) = refl
-listed earlier theirs r (target at t s o p c g m opening bs e f h) = refl
+listed earlier theirs r (surplus at b opening is e f) = refl
+listed earlier theirs r (target at t s o p c g m opening is e f h) = refl
 
 one-more : (a b c d : Bool) → d ≡ true → a || (b || (c || d)) ≡ true
 one-more true b c d h = refl
@@ -294,7 +302,7 @@ data-gets-a-listed-number s f e = go f (the-reason-is-true s f e)
     go (overlong offset name) m = refl
     go (breaks r) m = by (m .4)
       where
-        by : (Follow «ST2094-10_data» 0 (m .0) (broken r) × Speaks 0 (m .0) r) ⊎ ((a : Record) × Follow «ST2094-10_data» 0 (m .0) (complete a) × (r ≡ leftOver «end» (sumOfWidths (m .0)) (m .1)))
+        by : (Follow «ST2094-10_data» 0 (m .0) (broken r) × Speaks 0 (m .0) r) ⊎ ((a : Data) × Follow «ST2094-10_data» 0 (m .0) (complete a) × (r ≡ leftOver «end» (sumOfWidths (m .0)) (m .1)))
             → among (r .number) dataNumbers ≡ true
         by (inl k) = one-more (eqb (r .number) pastEnd) (eqb (r .number) tooManyZeros) (eqb (r .number) bytesRemain) (among (r .number) ruleNumbers) (listed (k .1 .earlier) (k .1 .theirs) r (k .1 .about))
         by (inr k) = rw (k .2) refl

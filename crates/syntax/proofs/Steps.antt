@@ -3,7 +3,9 @@ use Prim.Native.Nat.{ℕ}
 use mathlib.Core.Path.{_≡_, refl, ap, _∙_}
 use mathlib.Core.List.{List}
 use mathlib.Core.Bool.{Bool, true, false, cond, not, _&&_}
-use lib.Dec.{eqb, ltb}
+use native.Mathlib.Omega.{arith}
+use borrow.Author.Tests.{le-leb}
+use lib.Dec.{eqb, leb, ltb}
 use lib.IntN.{pos}
 use Rattle.refusals.specs.Refusals.{notInOrder, repeated}
 use Rattle.tree.specs.Reading.{Rule, meets, breaks, no}
@@ -16,31 +18,30 @@ use Rattle.record.specs.Name.{Name}
 use Rattle.record.specs.Level.{level, known}
 use Rattle.record.specs.Blocks.{inOrder}
 use Rattle.valid.specs.Valid.{isBlock, many, targets, among, mayFollow}
-use Rattle.syntax.specs.Data.{knownRule, lengthRule, averageRule, orderRules, surplusRule, targetRule, mayFollowRules}
-use Rattle.syntax.proofs.Blocks.{known-met, room-met, target-met}
+use Rattle.syntax.specs.Data.{mostReserved, kept, lengthRule, averageRule, orderRules, surplusRule, targetRule, mayFollowRules}
+use Rattle.syntax.proofs.Items.{room-met, target-met}
 
 module _ {B : Type 0} (g : Unit {0} → Syntax Name B) (at : ℕ) (s : List Bool) where
   -- a rule, by the test that decides it
   by-test : (r : Rule Name) (b : Bool) → meets r ≡ b → read (must r >>= g) at s ≡ cond b (read (g tt) at s) (no (breaks r))
   by-test r b q = read-must r g at s ∙ ap (λ (c : Bool). cond c (read (g tt) at s) (no (breaks r))) q
 
-  -- 8
-  pub read-known : (there l : ℕ) → read (must (knownRule there (pos l)) >>= g) at s ≡ cond (known l) (read (g tt) at s) (no (breaks (knownRule there (pos l))))
-  read-known there l = by-test (knownRule there (pos l)) (known l) (known-met there l)
+  -- 9, of a known level and of a reserved one
+  pub read-own-length : (start n l : ℕ) → known l ≡ true → read (must (lengthRule start (pos n) l) >>= g) at s ≡ cond (eqb n (level l .bytes)) (read (g tt) at s) (no (breaks (lengthRule start (pos n) l)))
+  read-own-length start n l k = by-test (lengthRule start (pos n) l) (eqb n (level l .bytes)) (rw k (range-of-one (level l .bytes) n))
 
-  -- 9
-  pub read-own-length : (start n l : ℕ) → read (must (lengthRule start (pos n) l) >>= g) at s ≡ cond (eqb n (level l .bytes)) (read (g tt) at s) (no (breaks (lengthRule start (pos n) l)))
-  read-own-length start n l = by-test (lengthRule start (pos n) l) (eqb n (level l .bytes)) (range-of-one (level l .bytes) n)
+  pub read-reserved-length : (start n l : ℕ) → known l ≡ false → read (must (lengthRule start (pos n) l) >>= g) at s ≡ cond (leb n mostReserved) (read (g tt) at s) (no (breaks (lengthRule start (pos n) l)))
+  read-reserved-length start n l k = by-test (lengthRule start (pos n) l) (leb n mostReserved) (rw (k, le-leb 0 n (omega arith)) refl)
 
   -- 10
-  pub read-in-order : (start : ℕ) (b : Block) → inOrder b ≡ true → read (orderRules start b >>= g) at s ≡ read (g tt) at s
+  pub read-in-order : (start : ℕ) (b : Block) → inOrder b ≡ true → read (orderRules start (kept b) >>= g) at s ≡ read (g tt) at s
   unfolding read _>>=_
   read-in-order start Nothing h = refl
   read-in-order start (Level1 min max avg) h = by-test (averageRule start min max avg) true h
   read-in-order start (Level2 t q o p c w m) h = refl
   read-in-order start (Level5 l r t b) h = refl
 
-  pub read-not-in-order : (start : ℕ) (b : Block) → inOrder b ≡ false → (r : Rule Name) × (r .number ≡ notInOrder) × (read (orderRules start b >>= g) at s ≡ no (breaks r))
+  pub read-not-in-order : (start : ℕ) (b : Block) → inOrder b ≡ false → (r : Rule Name) × (r .number ≡ notInOrder) × (read (orderRules start (kept b) >>= g) at s ≡ no (breaks r))
   read-not-in-order start Nothing h = let z : _≡_ {A = ℕ} 0 1 = cc in clash z
   read-not-in-order start (Level1 min max avg) h = (averageRule start min max avg, refl, by-test (averageRule start min max avg) false h)
   read-not-in-order start (Level2 t q o p c w m) h = let z : _≡_ {A = ℕ} 0 1 = cc in clash z
@@ -58,7 +59,7 @@ module _ {B : Type 0} (g : Unit {0} → Syntax Name B) (at : ℕ) (s : List Bool
       by-test (λ u. must (targetRule start before t) >>= g) at s (surplusRule start before 2) a p
       ∙ ap (λ o. cond a o (no (breaks (surplusRule start before 2)))) (by-test g at s (targetRule start before t) b q)
 
-  pub read-may-follow : (b : Block) → isBlock b ≡ true → mayFollow before b ≡ true → read (mayFollowRules start before b >>= g) at s ≡ read (g tt) at s
+  pub read-may-follow : (b : Block) → isBlock b ≡ true → mayFollow before b ≡ true → read (mayFollowRules start before (kept b) >>= g) at s ≡ read (g tt) at s
   unfolding _>>=_ mayFollow
   read-may-follow Nothing f h = let z : _≡_ {A = ℕ} 0 1 = cc in clash z
   read-may-follow (Level1 min max avg) f h = one (spare 1) refl h
@@ -78,7 +79,7 @@ module _ {B : Type 0} (g : Unit {0} → Syntax Name B) (at : ℕ) (s : List Bool
       one true q k = by-test g at s (surplusRule start before 5) true (room-met start before (Level5 l r t b) f ∙ q)
       one false q k = let z : _≡_ {A = ℕ} 0 1 = cc in clash z
 
-  pub read-may-not-follow : (b : Block) → isBlock b ≡ true → mayFollow before b ≡ false → (r : Rule Name) × (r .number ≡ repeated) × (read (mayFollowRules start before b >>= g) at s ≡ no (breaks r))
+  pub read-may-not-follow : (b : Block) → isBlock b ≡ true → mayFollow before b ≡ false → (r : Rule Name) × (r .number ≡ repeated) × (read (mayFollowRules start before (kept b) >>= g) at s ≡ no (breaks r))
   unfolding _>>=_ mayFollow
   read-may-not-follow Nothing f h = let z : _≡_ {A = ℕ} 0 1 = cc in clash z
   read-may-not-follow (Level1 min max avg) f h = one (spare 1) refl h

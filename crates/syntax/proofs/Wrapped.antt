@@ -23,11 +23,12 @@ use Rattle.tree.proofs.Stands.{other-than-1, a-wrapped-refusal-stands, a-wrappe
 use Rattle.record.specs.declared.Record.{Record}
 use Rattle.record.specs.Name.{Name, «end», «wrapper»}
 use Rattle.valid.specs.Valid.{among, Proper}
-use Rattle.syntax.specs.Data.{«ST2094-10_data», bareData}
-use Rattle.syntax.specs.Element.{elements, payload, bitsOfData}
-use Rattle.syntax.specs.Wrapper.{wrapperBytes, wrappedData, wrappedPayload}
+use Rattle.syntax.specs.Data.{Data, «ST2094-10_data», bareData}
+use Rattle.syntax.specs.Element.{dataElements, dataPayload, dataWidth, WellFormedData, dataOf}
+use Rattle.syntax.specs.Wrapper.{wrapperBytes, wrappedData, wrappedPayload, wrappedDataPayload}
 use Rattle.syntax.specs.Reason.{WrappedReason, dataNumbers, wrappedNumbers}
-use Rattle.syntax.proofs.Exact.{data-spells, whole}
+use Rattle.syntax.proofs.Exact.{data-spells, whole-data}
+use Rattle.syntax.proofs.Records.{same-payload}
 use Rattle.syntax.proofs.Reasons.{the-reason-is-true, a-true-reason-is-given, data-gets-a-listed-number}
 use Rattle.syntax.proofs.Stands.{a-payload-with-anything-behind-gets-12, only-such-an-input-gets-12, enough-bits}
 
@@ -36,12 +37,16 @@ wrapper-is-bytes = (omega arith, (omega arith, (omega arith, (omega arith, (omeg
 
 -- ---- exactness
 
--- wrapped data is accepted exactly if it is the one wrapped payload of a valid record; the wrapper is not counted
-pub accepted-is-the-one-wrapped-payload : (s : List ℕ) → Bytes s → (r : Record) (n : ℕ) → wrappedData (bitsOf s) ≡ ok r n → Proper r × (s ≡ wrappedPayload r) × (n ≡ bitsOfData r)
-accepted-is-the-one-wrapped-payload = accepted-wrapped-means «wrapper» «end» wrapperBytes wrapper-is-bytes «ST2094-10_data» elements Proper data-spells whole
+-- wrapped data is accepted exactly if it is the wrapped payload of well-formed data; the wrapper is not counted
+pub accepted-is-a-wrapped-payload : (s : List ℕ) → Bytes s → (d : Data) (n : ℕ) → wrappedData (bitsOf s) ≡ ok d n → WellFormedData d × (s ≡ wrappedDataPayload d) × (n ≡ dataWidth d)
+accepted-is-a-wrapped-payload = accepted-wrapped-means «wrapper» «end» wrapperBytes wrapper-is-bytes «ST2094-10_data» dataElements WellFormedData data-spells whole-data
 
-pub the-wrapped-payload-is-accepted : (r : Record) → Proper r → wrappedData (bitsOf (wrappedPayload r)) ≡ ok r (bitsOfData r)
-the-wrapped-payload-is-accepted = what-fits-is-accepted-wrapped «wrapper» «end» wrapperBytes wrapper-is-bytes «ST2094-10_data» elements Proper data-spells whole
+pub a-wrapped-payload-is-accepted : (d : Data) → WellFormedData d → wrappedData (bitsOf (wrappedDataPayload d)) ≡ ok d (dataWidth d)
+a-wrapped-payload-is-accepted = what-fits-is-accepted-wrapped «wrapper» «end» wrapperBytes wrapper-is-bytes «ST2094-10_data» dataElements WellFormedData data-spells whole-data
+
+-- a record's own
+pub same-wrapped-payload : (r : Record) → Proper r → wrappedDataPayload (dataOf r) ≡ wrappedPayload r
+same-wrapped-payload r p = ap (λ (l : List ℕ). wrapperBytes ++ l) (same-payload r p)
 
 -- ---- reasons
 
@@ -84,36 +89,36 @@ pub a-refusal-of-wrapped-data-stands : (s t : List ℕ) (f : Fault Name) → wra
 a-refusal-of-wrapped-data-stands s t f e h = rw (bits-append s t) (a-wrapped-refusal-stands «wrapper» «end» wrapperBytes wrapper-is-bytes «ST2094-10_data» (bitsOf s) (bitsOf t) f (other-than-1 f h) e)
 
 -- every proper beginning of a wrapped payload gets 1
-pub every-proper-beginning-of-a-wrapped-payload-gets-1 : (r : Record) → Proper r → (s t : List ℕ) → wrappedPayload r ≡ s ++ t → 0 < length t → (offset : ℕ) × (name : Name) × (wrappedData (bitsOf s) ≡ no (cutOff offset name))
-every-proper-beginning-of-a-wrapped-payload-gets-1 r p s t e h =
-    let a : wrappedData (bitsOf s ++ bitsOf t) ≡ ok r (bitsOfData r) = ap wrappedData (sym (bits-append s t) ∙ ap bitsOf (sym e)) ∙ the-wrapped-payload-is-accepted r p in
-    a-wrapped-beginning-is-cut-off «wrapper» «end» wrapperBytes wrapper-is-bytes «ST2094-10_data» (bitsOf s) (bitsOf t) r (bitsOfData r) a (omega (arith, length-bits t))
+pub every-proper-beginning-of-a-wrapped-payload-gets-1 : (d : Data) → WellFormedData d → (s t : List ℕ) → wrappedDataPayload d ≡ s ++ t → 0 < length t → (offset : ℕ) × (name : Name) × (wrappedData (bitsOf s) ≡ no (cutOff offset name))
+every-proper-beginning-of-a-wrapped-payload-gets-1 d w s t e h =
+    let a : wrappedData (bitsOf s ++ bitsOf t) ≡ ok d (dataWidth d) = ap wrappedData (sym (bits-append s t) ∙ ap bitsOf (sym e)) ∙ a-wrapped-payload-is-accepted d w in
+    a-wrapped-beginning-is-cut-off «wrapper» «end» wrapperBytes wrapper-is-bytes «ST2094-10_data» (bitsOf s) (bitsOf t) d (dataWidth d) a (omega (arith, length-bits t))
 
 -- the data behind the wrapper's bytes
 pub handed-on : (s : List ℕ) → wrappedData (bitsOf (wrapperBytes ++ s)) ≡ bareData (bitsOf s)
 handed-on s = ap wrappedData (bits-append wrapperBytes s) ∙ generic.behind-the-wrapper «wrapper» wrapperBytes «end» «ST2094-10_data» wrapper-is-bytes (bitsOf s)
 
 -- a wrapped payload with anything behind it gets 12, and only such an input does
-pub a-wrapped-payload-with-anything-behind-gets-12 : (r : Record) → Proper r → (t : List ℕ) → 0 < length t
-    → wrappedData (bitsOf (wrappedPayload r ++ t)) ≡ no (breaks (leftOver «end» (bitsOfData r) (bitsOf t)))
-a-wrapped-payload-with-anything-behind-gets-12 r p t h =
-    ap (λ (s : List ℕ). wrappedData (bitsOf s)) (append-assoc wrapperBytes (payload r) t) ∙ handed-on (payload r ++ t) ∙ a-payload-with-anything-behind-gets-12 r p t h
+pub a-wrapped-payload-with-anything-behind-gets-12 : (d : Data) → WellFormedData d → (t : List ℕ) → 0 < length t
+    → wrappedData (bitsOf (wrappedDataPayload d ++ t)) ≡ no (breaks (leftOver «end» (dataWidth d) (bitsOf t)))
+a-wrapped-payload-with-anything-behind-gets-12 d w t h =
+    ap (λ (s : List ℕ). wrappedData (bitsOf s)) (append-assoc wrapperBytes (dataPayload d) t) ∙ handed-on (dataPayload d ++ t) ∙ a-payload-with-anything-behind-gets-12 d w t h
 
 pub only-such-a-wrapped-input-gets-12 : (s : List ℕ) → Bytes s → (f : Fault Name) → wrappedData (bitsOf s) ≡ no f → numberIn f ≡ bytesRemain
-    → (r : Record) × (t : List ℕ) × Proper r × (s ≡ wrappedPayload r ++ t) × (0 < length t)
+    → (d : Data) × (t : List ℕ) × WellFormedData d × (s ≡ wrappedDataPayload d ++ t) × (0 < length t)
 only-such-a-wrapped-input-gets-12 s h f e n = go (generic.refused-behind-the-wrapper «wrapper» wrapperBytes «end» «ST2094-10_data» (bitsOf s) f e)
   where
     go : Means (wrapperTable «wrapper» wrapperBytes) 0 (bitsOf s) (no f) ⊎ ((t : List Bool) × (bitsOf s ≡ bitsOf wrapperBytes ++ t) × (bareData t ≡ no f))
-        → (r : Record) × (t : List ℕ) × Proper r × (s ≡ wrappedPayload r ++ t) × (0 < length t)
+        → (d : Data) × (t : List ℕ) × WellFormedData d × (s ≡ wrappedDataPayload d ++ t) × (0 < length t)
     go (inl m) = absurd (in-the-wrapper «wrapper» wrapperBytes (λ k. k ≡ bytesRemain → ⊥) (λ q. omega arith) (λ q. omega arith) (bitsOf s) f m n)
     go (inr m) =
         let b = behind-bytes s wrapperBytes (m .0) h wrapper-is-bytes (m .1) in
         let k = only-such-an-input-gets-12 (pack (m .0)) (packed-bytes (length (m .0) / 8) (m .0)) f (ap bareData (b .1) ∙ m .2) n in
-        (k .0, k .1, k .2, b .0 ∙ ap (λ (l : List ℕ). wrapperBytes ++ l) (k .3) ∙ sym (append-assoc wrapperBytes (payload (k .0)) (k .1)), k .4)
+        (k .0, k .1, k .2, b .0 ∙ ap (λ (l : List ℕ). wrapperBytes ++ l) (k .3) ∙ sym (append-assoc wrapperBytes (dataPayload (k .0)) (k .1)), k .4)
 
--- wrapped data of 238 bytes or more never gets 1
-pub wrapped-data-of-238-bytes-never-gets-1 : (s : List ℕ) → 238 ≤ length s → (f : Fault Name) → wrappedData (bitsOf s) ≡ no f → numberIn f ≡ pastEnd → ⊥
-wrapped-data-of-238-bytes-never-gets-1 s l f e n = go f n (generic.refused-behind-the-wrapper «wrapper» wrapperBytes «end» «ST2094-10_data» (bitsOf s) f e)
+-- wrapped data of 260,774 bytes or more never gets 1
+pub wrapped-data-of-260774-bytes-never-gets-1 : (s : List ℕ) → 260774 ≤ length s → (f : Fault Name) → wrappedData (bitsOf s) ≡ no f → numberIn f ≡ pastEnd → ⊥
+wrapped-data-of-260774-bytes-never-gets-1 s l f e n = go f n (generic.refused-behind-the-wrapper «wrapper» wrapperBytes «end» «ST2094-10_data» (bitsOf s) f e)
   where
     inside : (f : Fault Name) → numberIn f ≡ pastEnd → Means (wrapperTable «wrapper» wrapperBytes) 0 (bitsOf s) (no f) → ⊥
     inside (cutOff offset name) n m =

@@ -6,17 +6,21 @@ use Rattle.tree.specs.Reading.{Out}
 use Rattle.tree.specs.Wrapper.{readBehind}
 use Rattle.record.specs.declared.Record.{Record}
 use Rattle.record.specs.Name.{Name, «end», «wrapper»}
-use Rattle.syntax.specs.Data.{«ST2094-10_data»}
-use Rattle.syntax.specs.Element.{payload}
+use Rattle.syntax.specs.Data.{Data, «ST2094-10_data»}
+use Rattle.syntax.specs.Element.{payload, dataPayload}
 
 -- country, provider, user identifier, and the type code of ST2094-10_data
 abbrev pub wrapperBytes : List ℕ
 wrapperBytes = 0xB5 ∷ 0x00 ∷ 0x31 ∷ 0x47 ∷ 0x41 ∷ 0x39 ∷ 0x34 ∷ 0x09 ∷ []
 
 -- the data is read from the ninth byte on, and the wrapper is not counted
-abbrev pub wrappedData : List Bool → Out Name Record
+abbrev pub wrappedData : List Bool → Out Name Data
 wrappedData s = readBehind «wrapper» wrapperBytes «end» «ST2094-10_data» s
 
 -- the one wrapped payload of a record
 abbrev pub wrappedPayload : Record → List ℕ
 wrappedPayload r = wrapperBytes ++ payload r
+
+-- and of data
+abbrev pub wrappedDataPayload : Data → List ℕ
+wrappedDataPayload d = wrapperBytes ++ dataPayload d

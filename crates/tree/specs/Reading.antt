@@ -10,11 +10,10 @@ use lib.Signed.{leZ}
 use Rattle.refusals.specs.Refusals.{pastEnd, tooManyZeros}
 use Rattle.tree.specs.Bits.{value}
 
--- which numbers an element may have: from the lowest to the highest (none if the lowest is above it), other ones than these, or one of these
+-- which numbers an element may have: from the lowest to the highest (none if the lowest is above it), or other ones than these
 pub data Allowed : Type 0 where
   between : ℤ → ℤ → Allowed
   otherThan : List ℤ → Allowed
-  oneOf : List ℤ → Allowed
 
 -- the same number
 abbrev pub equalZ : ℤ → ℤ → Bool
@@ -32,7 +31,6 @@ amongZ z (y ∷ ys) = equalZ z y || amongZ z ys
 abbrev pub allows : Allowed → ℤ → Bool
 allows (between low high) z = leZ low z && leZ z high
 allows (otherThan zs) z = not (amongZ z zs)
-allows (oneOf zs) z = amongZ z zs
 
 -- a rule for an element that was read: its name and value, which values are allowed, and the number and offset of the refusal
 pub record Rule (N : Type 0) : Type 0 where

@@ -133,11 +133,30 @@ walk-levels before (b ∷ bs) h w l =
     (search tests depth 12)
     l)
 
+-- each block is of level 1, 2 or 5
+by-levels : (bs : List Block) → every isBlock bs ≡ true → length bs ≡ many 1 bs + many 2 bs + many 5 bs
+unfolding every many
+by-levels [] h = refl
+by-levels (Nothing ∷ bs) h = let z : _≡_ {A = ℕ} 0 1 = cc in absurd (omega arith)
+by-levels (Level1 min max avg ∷ bs) h = omega (arith, by-levels bs h)
+by-levels (Level2 t s o p c g m ∷ bs) h = omega (arith, by-levels bs h)
+by-levels (Level5 l r t b ∷ bs) h = omega (arith, by-levels bs h)
+
+-- so that one of level 1, sixteen of level 2 and one of level 5 are the most: a record's 18 places suffice for blocks that pass the walk
+pub few-blocks : (bs : List Block) → wellFormed [] bs ≡ true → length bs ≤ mostBlocks
+few-blocks bs w =
+    let h = sym (walk-is-clauses bs) ∙ w in
+    let e = by-levels bs (search tests depth 12) in
+    let a = leb-true (many 1 bs) 1 (search tests depth 12) in
+    let b = leb-true (many 2 bs) 16 (search tests depth 12) in
+    let c = leb-true (many 5 bs) 1 (search tests depth 12) in
+    omega arith
+
 -- what the test of the flag says
-flag-means : (f : Bool) (n : ℕ) → f || eqb n 0 ≡ true → f ≡ false → n ≡ 0
+pub flag-means : (f : Bool) (n : ℕ) → f || eqb n 0 ≡ true → f ≡ false → n ≡ 0
 flag-means f n h e = eqb-true n 0 (rw e at h)
 
-means-flag : (f : Bool) (n : ℕ) → (f ≡ false → n ≡ 0) → f || eqb n 0 ≡ true
+pub means-flag : (f : Bool) (n : ℕ) → (f ≡ false → n ≡ 0) → f || eqb n 0 ≡ true
 means-flag true n h = refl
 means-flag false n h = eq-eqb n 0 (h refl)
 

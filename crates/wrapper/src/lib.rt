@@ -86,6 +86,7 @@ pub fn refused(why: Refusal) -> Reading
     Reading {
         result: why.number,
         bits: 0,
+        skipped: 0,
         record,
     }
 }

@@ -10,6 +10,7 @@ use Rattle.bits.specs.Answer.{nameless, spanOf}
 use Rattle.bits.proofs.Reading.{spans-ok, spans-no, named-zeros}
 use Rattle.record.specs.Name.{«ext_dm_alignment_zero_bit»}
 use Rattle.record.specs.Level.{padding}
+use Rattle.syntax.specs.Data.{kept}
 use Rattle.block.specs.Parts.{afterFields}
 use Rattle.block.proofs.Laws.{first-no, ordered, in-order, out-of-order, read-closing}
 use borrow.Author.Needs.{needs}
@@ -59,7 +60,7 @@ returns c start =
     let e : Refused r ≡ spanOf (read (zeroBits nameless (padding (a .level))) (a .at) l) =
     sym (c .before .why .given .1) ∙ z .read-zeros .ensures ∙ ap (λ (k : ℕ). spanOf (read (zeroBits nameless k) (a .at) l)) (z .before .padding-of .ensures) in
     let o = read (zeroBits «ext_dm_alignment_zero_bit» (padding (a .level))) (a .at) l in
-    first-no (afterFields start (a .level) (a .block)) o (λ z. ordered start (a .block)) (a .at) B (read-closing start (a .level) (a .block) (a .at) l) r
+    first-no (afterFields start (a .level) (a .block)) o (λ z. ordered start (kept (a .block))) (a .at) B (read-closing start (a .level) (a .block) (a .at) l) r
     (spans-no o r (e ∙ named-zeros «ext_dm_alignment_zero_bit» (padding (a .level)) (a .at) l))
 
 returns-2 : tie.Need-returns-2

@@ -12,7 +12,7 @@ use Rattle.bits.specs.Answer.{nameless, numberOf}
 use Rattle.bits.proofs.Reading.{is-ok, is-no, named-ue}
 use Rattle.record.specs.Name.{«ext_block_length»}
 use Rattle.syntax.specs.Data.{block}
-use Rattle.block.specs.Parts.{afterLength, stepBehind, stepTook}
+use Rattle.block.specs.Parts.{afterLength, partBehind, partTook}
 use Rattle.block.proofs.Laws.{contentBits, first-no, took-few, second-on, read-length, takes-length, takes-after-length}
 use borrow.Author.Needs.{needs}
 use Rattle.block.proofs.read_block.Statement.{statement}
@@ -52,7 +52,7 @@ behind-requires c κs =
     let a = d .before .before .before .before .before .args in
     let v = d .before .size .given .0 .0 in
     let n = d .before .size .given .0 .1 .0 in
-    let few : stepTook (c .after-length .result) ≤ 8 + contentBits = rw (c .after-length .ensures 0) (took-few (8 + contentBits) (afterLength 0 (pos v)) (takes-after-length 0 (pos v)) (a .at + n) (drop (a .at + n) (bitsOf (a .s .now)))) in
+    let few : partTook (c .after-length .result) ≤ 8 + contentBits = rw (c .after-length .ensures 0) (took-few (8 + contentBits) (afterLength 0 (pos v)) (takes-after-length 0 (pos v)) (a .at + n) (drop (a .at + n) (bitsOf (a .s .now)))) in
     omega (arith, f .1, few)
 
 returns : tie.Need-returns
@@ -71,7 +71,7 @@ returns-2 c =
     let a = d .before .before .before .before .before .args in
     let B = bitsOf (a .s .now) in
     let l = drop (a .at) B in
-    c .behind .ensures ∙ ap (stepBehind (d .before .size .given .0 .1 .0)) (c .before .after-length .ensures (a .at))
+    c .behind .ensures ∙ ap (partBehind (d .before .size .given .0 .1 .0)) (c .before .after-length .ensures (a .at))
     ∙ second-on block (ue «ext_block_length» mostZeros (a .at) l) (λ v. afterLength (a .at) (pos v)) (a .at) B (read-length (a .at) l)
     (d .before .size .given .0 .0) (d .before .size .given .0 .1 .0) (first d .0)
 

@@ -1,8 +1,8 @@
--- `block::read_body` meets its contract: the level is checked, then the length.
+-- `block::read_body` meets its contract: by the level, the length is checked, then the content.
 use mathlib.Core.Path.{_∙_, sym}
 use lib.ListN.{drop}
 use Rattle.tree.specs.Bits.{bitsOf}
-use Rattle.block.proofs.Laws.{body-unknown, body-length, body-is}
+use Rattle.block.proofs.Laws.{body-length, body-is, body-too-long, body-reserved}
 use borrow.Author.Needs.{needs}
 use Rattle.block.proofs.read_body.Statement.{statement}
 use Rattle.block.proofs.read_body.Tie as tie
@@ -22,28 +22,39 @@ read-content-requires c κs = search needs
 refuse-requires : tie.Need-refuse-requires
 refuse-requires c κs = search needs
 
+skip-requires : tie.Need-skip-requires
+skip-requires c κs = search needs
+
 refuse-requires-2 : tie.Need-refuse-requires-2
 refuse-requires-2 c κs = search needs
 
 returns : tie.Need-returns
-returns c start there =
+returns c start =
     let b = c .before .before .before in
     let a = b .before .before .before .args in
     c .read-content .ensures start
-    ∙ body-is start there (a .size) (a .level) (a .at) (drop (a .at) (bitsOf (a .s .now))) (sym (b .before .is-known .ensures) ∙ c .before .before .if1 .taken) (c .before .if2 .taken ∙ b .bytes-of .ensures)
+    ∙ body-is start (a .size) (a .level) (a .at) (drop (a .at) (bitsOf (a .s .now))) (sym (b .before .is-known .ensures) ∙ c .before .before .if1 .taken) (c .before .if2 .taken ∙ b .bytes-of .ensures)
 
 returns-2 : tie.Need-returns-2
-returns-2 c start there =
+returns-2 c start =
     let b = c .before .before .before in
     let a = b .before .before .before .args in
     c .refuse .ensures
-    ∙ body-length start there (a .size) (a .level) (a .at) (drop (a .at) (bitsOf (a .s .now))) (sym (b .before .is-known .ensures) ∙ c .before .before .if1 .taken) (λ e. c .before .if2 .left (e ∙ sym (b .bytes-of .ensures)))
+    ∙ body-length start (a .size) (a .level) (a .at) (drop (a .at) (bitsOf (a .s .now))) (sym (b .before .is-known .ensures) ∙ c .before .before .if1 .taken) (λ e. c .before .if2 .left (e ∙ sym (b .bytes-of .ensures)))
 
 returns-3 : tie.Need-returns-3
-returns-3 c start there =
-    let b = c .before .before in
+returns-3 c start =
+    let b = c .before .before .before in
     let a = b .before .before .before .args in
-    c .refuse2 .ensures ∙ body-unknown start there (a .size) (a .level) (a .at) (drop (a .at) (bitsOf (a .s .now))) (sym (b .before .is-known .ensures) ∙ c .before .if1 .left)
+    c .skip .ensures (a .level)
+    ∙ body-reserved start (a .size) (a .level) (a .at) (drop (a .at) (bitsOf (a .s .now))) (sym (b .before .is-known .ensures) ∙ c .before .before .if1 .left) (c .before .if3 .taken)
+
+returns-4 : tie.Need-returns-4
+returns-4 c start =
+    let b = c .before .before .before in
+    let a = b .before .before .before .args in
+    c .refuse2 .ensures
+    ∙ body-too-long start (a .size) (a .level) (a .at) (drop (a .at) (bitsOf (a .s .now))) (sym (b .before .is-known .ensures) ∙ c .before .before .if1 .left) (c .before .if3 .left)
 
 pub read-body-spec : {M : Type 1} → statement M
 read-body-spec =
@@ -54,7 +65,9 @@ read-body-spec =
     cast-bytes
     read-content-requires
     refuse-requires
+    skip-requires
     refuse-requires-2
     returns
     returns-2
-    returns-3)
+    returns-3
+    returns-4)

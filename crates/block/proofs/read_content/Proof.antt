@@ -11,7 +11,7 @@ use Rattle.record.specs.Name.{Name}
 use Rattle.record.specs.Level.{fieldsOf}
 use Rattle.syntax.specs.Data.{blockOf}
 use Rattle.fields.proofs.Laws.{step-ok, step-no}
-use Rattle.block.specs.Parts.{afterFields, contentFrom, stepBehind, stepTook}
+use Rattle.block.specs.Parts.{afterFields, contentFrom, partBehind, partTook}
 use Rattle.block.proofs.Laws.{contentBits, first-no, second-on, read-fields, few-fields, few-zeros}
 use borrow.Author.Needs.{needs}
 use Rattle.block.proofs.read_content.Statement.{statement}
@@ -51,7 +51,7 @@ behind-requires c κs =
     let f = first d in
     let a = d .before .before .before .before .before .args in
     let n = d .before .b .given .0 .1 .0 in
-    let few : stepTook (c .after-fields .result) ≤ contentBits = rw (c .after-fields .ensures 0) (few-zeros 0 (a .level) (d .before .b .given .0 .0) (a .at + n) (drop (a .at + n) (bitsOf (a .s .now)))) in
+    let few : partTook (c .after-fields .result) ≤ contentBits = rw (c .after-fields .ensures 0) (few-zeros 0 (a .level) (d .before .b .given .0 .0) (a .at + n) (drop (a .at + n) (bitsOf (a .s .now)))) in
     omega (arith, f .1, few)
 
 returns : tie.Need-returns
@@ -70,7 +70,7 @@ returns-2 c start =
     let s = d .before .before .before .before .before in
     let a = s .args in
     let B = bitsOf (a .s .now) in
-    c .behind .ensures ∙ ap (stepBehind (d .before .b .given .0 .1 .0)) (c .before .after-fields .ensures start)
+    c .behind .ensures ∙ ap (partBehind (d .before .b .given .0 .1 .0)) (c .before .after-fields .ensures start)
     ∙ second-on (contentFrom start (a .level)) (fieldsRead s) (afterFields start (a .level)) (a .at) B (read-fields start (a .level) (a .at) (drop (a .at) B)) (d .before .b .given .0 .0) (d .before .b .given .0 .1 .0) (first d .0)
 
 pub read-content-spec : {M : Type 1} → statement M

@@ -3,10 +3,11 @@ use mathlib.Core.Path.{_≡_}
 use mathlib.Core.Bool.{true}
 use native.Mathlib.Omega.{arith}
 use Rattle.tree.specs.Bits.{bitsOf}
-use Rattle.tree.specs.Reading.{ok}
+use Rattle.tree.specs.Reading.{ok, mapped}
 use Rattle.tree.specs.Syntax.{read}
 use Rattle.tree.proofs.Bits.{length-rest}
 use Rattle.syntax.specs.Data.{«ST2094-10_data»}
+use Rattle.reader.specs.Reading.{shown, shownIn}
 use Rattle.reader.proofs.Laws.{found-ok, found-no, data-no, data-remains, data-is, data-whole}
 use borrow.Author.Needs.{needs}
 use Rattle.reader.proofs.read_data.Statement.{statement}
@@ -20,8 +21,8 @@ empty-requires c κs = search needs
 
 -- the record and the bits before the end
 all-read : (c : tie.After-empty) → c .before .before .read-whole-bytes .result .ok ≡ true
-    → read «ST2094-10_data» 0 (bitsOf (c .before .before .before .before .args .input .now)) ≡ ok (c .before .before .read-whole-bytes .result .«record») (c .before .before .read-whole-bytes .result .width)
-all-read c h = found-ok (read «ST2094-10_data» 0 (bitsOf (c .before .before .before .before .args .input .now))) (c .before .before .read-whole-bytes .result) (c .before .before .read-whole-bytes .ensures) h
+    → mapped shownIn (read «ST2094-10_data» 0 (bitsOf (c .before .before .before .before .args .input .now))) ≡ ok (shown (c .before .before .read-whole-bytes .result .«record») (c .before .before .read-whole-bytes .result .skipped)) (c .before .before .read-whole-bytes .result .width)
+all-read c h = found-ok (mapped shownIn (read «ST2094-10_data» 0 (bitsOf (c .before .before .before .before .args .input .now)))) (c .before .before .read-whole-bytes .result) (c .before .before .read-whole-bytes .ensures) h
 
 returns : tie.Need-returns
 returns c =
@@ -29,28 +30,28 @@ returns c =
     let input = d .before .before .before .before .args .input .now in
     let x = d .before .before .read-whole-bytes .result in
     let e = all-read d (c .before .before .if1 .taken) in
-    let w = data-whole (bitsOf input) (x .«record») (x .width) e in
-    rw (d .empty .ensures) (data-remains (bitsOf input) (x .«record») (x .width) e (λ z. omega (arith, length-rest input (x .width), w)))
+    let w = data-whole (bitsOf input) (x .«record») (x .skipped) (x .width) e in
+    rw (d .empty .ensures) (data-remains (bitsOf input) (x .«record») (x .skipped) (x .width) e (λ z. omega (arith, length-rest input (x .width), w)))
 
 cast-bits : tie.Need-cast-bits
 cast-bits c =
     let d = c .before .before .before .before in
     let x = d .before .before .read-whole-bytes .result in
-    omega (arith, data-whole (bitsOf (d .before .before .before .before .args .input .now)) (x .«record») (x .width) (all-read d (c .before .before .before .if1 .taken)))
+    omega (arith, data-whole (bitsOf (d .before .before .before .before .args .input .now)) (x .«record») (x .skipped) (x .width) (all-read d (c .before .before .before .if1 .taken)))
 
 returns-2 : tie.Need-returns-2
 returns-2 c =
     let d = c .before .before .before .before in
     let input = d .before .before .before .before .args .input .now in
     let x = d .before .before .read-whole-bytes .result in
-    data-is (bitsOf input) (x .«record») (x .width) (all-read d (c .before .before .before .if1 .taken)) (omega (arith, length-rest input (x .width)))
+    data-is (bitsOf input) (x .«record») (x .skipped) (x .width) (all-read d (c .before .before .before .if1 .taken)) (omega (arith, length-rest input (x .width)))
 
 returns-3 : tie.Need-returns-3
 returns-3 c =
     let d = c .before .before in
     let s = bitsOf (d .before .before .before .before .args .input .now) in
     let x = d .before .before .read-whole-bytes .result in
-    rw (d .empty .ensures) (data-no s (x .why) (found-no (read «ST2094-10_data» 0 s) x (d .before .before .read-whole-bytes .ensures) (c .before .if1 .left)))
+    rw (d .empty .ensures) (data-no s (x .why) (found-no (mapped shownIn (read «ST2094-10_data» 0 s)) x (d .before .before .read-whole-bytes .ensures) (c .before .if1 .left)))
 
 pub read-data-spec : {M : Type 1} → statement M
 read-data-spec =
