@@ -35,7 +35,7 @@ use Rattle.record.specs.Blocks.{inOrder}
 use Rattle.syntax.specs.Data.{mostReserved, Item, kept, passed, blockOf, lengthRule, averageRule, orderRules, content, reservedBits, reservedContent, wholeBlock, block}
 use Rattle.syntax.specs.Element.{itemFits}
 use Rattle.syntax.proofs.Blocks.{contentOf, block-only}
-use Rattle.syntax.proofs.Largest.{reserved-width}
+use Rattle.syntax.proofs.Largest.{blockMost, reserved-width, widths-item}
 use Rattle.syntax.proofs.Steps.{read-own-length, read-reserved-length, read-in-order, read-not-in-order}
 use Rattle.block.specs.declared.Part.the-variants.{Kept, Passed, Refused}
 use Rattle.block.specs.Parts.{partOf, refusedPart, partBehind, partTook, afterFields, contentFrom, body, afterLength}
@@ -102,12 +102,9 @@ few l = go (eqb l 1) (eqb l 2) (eqb l 5)
     go false false true = (refl, omega arith)
     go false false false = (refl, omega arith)
 
--- the most bits of a block's content; with the level; with the length
+-- the most bits of a block's content
 abbrev pub contentBits : ℕ
 contentBits = 8 * mostReserved
-
-abbrev pub blockBits : ℕ
-blockBits = 2 * mostZeros + 1 + (8 + contentBits)
 
 takes-fields : (l : ℕ) → Takes (totalWidth (codings l)) (row (fieldsOf l))
 takes-fields l at es zs h =
@@ -237,18 +234,18 @@ block-ordered at s = here-block at s ∙ then-same (any «ext_block_length» var
 
 -- ---- what is accepted
 
--- takes few bits
-takes-block : (start : ℕ) → Takes blockBits (blockFrom start)
-takes-block start = takes-element (8 + contentBits) (2 * mostZeros + 1) «ext_block_length» variable (afterLength start) variable-width (takes-after-length start)
+-- fits, and has no more bits than a block may have
+module _ (at : ℕ) (s : List Bool) (i : Item) (n : ℕ) (e : read block at s ≡ ok i n) where
+  accepted-means : Means block at s (ok i n)
+  accepted-means = rw e at (every-answer-is-true block at s)
 
-pub accepted-few : (at : ℕ) (s : List Bool) (i : Item) (n : ℕ) → read block at s ≡ ok i n → n ≤ blockBits
-accepted-few at s i n e = takes-few blockBits (blockFrom at) (takes-block at) at s i n (sym (block-ordered at s) ∙ e)
+  pub accepted-fits : itemFits i ≡ true
+  accepted-fits = block-only at (accepted-means .0) i (accepted-means .1) .0
 
--- and fits
-pub accepted-fits : (at : ℕ) (s : List Bool) (i : Item) (n : ℕ) → read block at s ≡ ok i n → itemFits i ≡ true
-accepted-fits at s i n e =
-    let m : Means block at s (ok i n) = rw e at (every-answer-is-true block at s) in
-    block-only at (m .0) i (m .1) .0
+  pub accepted-few : n ≤ blockMost
+  accepted-few =
+      let m = accepted-means in
+      omega (arith, m .3, ap sumOfWidths (block-only at (m .0) i (m .1) .1), widths-item i accepted-fits)
 
 -- ---- what reading each part comes to
 

@@ -15,7 +15,8 @@ ghost use Rattle.block.specs.Parts.{partOf, refusedPart, partBehind, par
 // 02, b: a block of a reserved level has at most so many bytes.
 const MOST_RESERVED: u32 = 1023;
 
-// A block of a known level, which is kept, or one of a reserved level, which is passed over, and how many bits it took; or why there is none.
+// A block of a known level, which is kept, or one of a reserved level, which is passed over, and how many bits it took; or why there is
+// none.
 pub enum Part {
     Kept { block: Block, width: usize },
     Passed { width: usize },

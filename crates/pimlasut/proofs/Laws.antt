@@ -41,7 +41,7 @@ use Rattle.flat.specs.Flat.{flat, flatLength, recordIn}
 use Rattle.flat.proofs.Named.{length-in}
 use Rattle.tables.specs.Table.{pointIn, tableIn}
 use Rattle.tables.proofs.Laws.{length-table, table-at}
-use Rattle.pimlasut.specs.Boundary.{ifSized, after, isRecord, isFacts, factsOf, factsAfter, ifFit}
+use Rattle.pimlasut.specs.Boundary.{ifSized, after, isRecord, isFacts, factsOf, factsAfter, answerInto}
 
 -- ---- lengths, and what stays
 
@@ -96,17 +96,17 @@ module _ (row : List ℤ) (old : List ℕ) (expected : Reading) where
 
   -- one of the two rows has not its length: 13, and the facts are zeros or stay as they were
   pub unfit-reading : {facts : List ℕ} → sized ≡ false → facts ≡ factsAfter (refusedReading unfitOutput) old
-      → (unfitOutput ≡ ifFit sized expected .result) × ((row ≡ after unfitOutput (flat (expected .«record»)) row) × (facts ≡ factsAfter (ifFit sized expected) old))
+      → (unfitOutput ≡ answerInto row old expected .result) × ((row ≡ after unfitOutput (flat (expected .«record»)) row) × (facts ≡ factsAfter (answerInto row old expected) old))
   unfit-reading h e =
-      let q : refusedReading unfitOutput ≡ ifFit sized expected = sym (ap (λ (t : Bool). cond t expected (refusedReading unfitOutput)) h) in
+      let q : refusedReading unfitOutput ≡ answerInto row old expected = sym (ap (λ (t : Bool). cond t expected (refusedReading unfitOutput)) h) in
       (ap (λ (x : Reading). x .result) q, (refl, e ∙ ap (λ (x : Reading). factsAfter x old) q))
 
   -- both have: a reading, as it is given
   pub given-reading : {row′ : List ℤ} {facts : List ℕ} {n : ℕ} {q : Reading} → (isRecord row ≡ true) × (isFacts old ≡ true) → q ≡ expected → n ≡ q .result → row′ ≡ after n (flat (q .«record»)) row → facts ≡ factsOf q
-      → (n ≡ ifFit sized expected .result) × ((row′ ≡ after n (flat (expected .«record»)) row) × (facts ≡ factsAfter (ifFit sized expected) old))
+      → (n ≡ answerInto row old expected .result) × ((row′ ≡ after n (flat (expected .«record»)) row) × (facts ≡ factsAfter (answerInto row old expected) old))
   given-reading {n = n} (t, u) e f g h =
-      let p : expected ≡ ifFit sized expected = sym (ap (λ (b : Bool). cond b expected (refusedReading unfitOutput)) (and-both (isRecord row) (isFacts old) t u)) in
-      let there : factsOf (ifFit sized expected) ≡ factsAfter (ifFit sized expected) old = sym (ap (λ (b : Bool). cond b (factsOf (ifFit sized expected)) old) u) in (
+      let p : expected ≡ answerInto row old expected = sym (ap (λ (b : Bool). cond b expected (refusedReading unfitOutput)) (and-both (isRecord row) (isFacts old) t u)) in
+      let there : factsOf (answerInto row old expected) ≡ factsAfter (answerInto row old expected) old = sym (ap (λ (b : Bool). cond b (factsOf (answerInto row old expected)) old) u) in (
         f ∙ ap (λ (q : Reading). q .result) (e ∙ p),
         (g ∙ ap (λ (q : Reading). after n (flat (q .«record»)) row) e, h ∙ ap factsOf (e ∙ p) ∙ there),
       )

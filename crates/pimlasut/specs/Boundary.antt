@@ -2,7 +2,7 @@
 use Prim.Native.Nat.{ℕ}
 use mathlib.Core.Path.{_≡_}
 use mathlib.Core.List.{List, [], _∷_}
-use mathlib.Core.Bool.{Bool, cond}
+use mathlib.Core.Bool.{Bool, cond, _&&_}
 use lib.Dec.{eqb}
 use lib.IntN.{ℤ}
 use lib.ListN.{length}
@@ -47,9 +47,9 @@ factsLength = 2
 abbrev pub isFacts : List ℕ → Bool
 isFacts l = eqb (length l) factsLength
 
--- what a reading answers where each row has its length; else it is refused with 13
-abbrev pub ifFit : Bool → Reading → Reading
-ifFit sized q = cond sized q (refusedReading unfitOutput)
+-- what is answered for a reading, into a record's row and a row of facts: the reading where both have their length; else 13
+abbrev pub answerInto : List ℤ → List ℕ → Reading → Reading
+answerInto numbers facts q = cond (isRecord numbers && isFacts facts) q (refusedReading unfitOutput)
 
 -- the row afterwards: the facts, which are zeros beside a refusal; a row of another length stays as it was
 abbrev pub factsAfter : Reading → List ℕ → List ℕ

@@ -26,7 +26,7 @@ ghost use Rattle.plan.specs.Limit.{mostPoints};
 ghost use Rattle.track.specs.Track.{padded, placedPoints};
 ghost use Rattle.flat.specs.Flat.{placeLength, flat, flatLength, recordIn, blockNamed};
 ghost use Rattle.tables.specs.Table.{flatTable, tableLength, pointIn};
-ghost use Rattle.pimlasut.specs.Boundary.{ifSized, after, isRecord, isTable, factsLength, isFacts, factsOf, factsAfter, ifFit, singles, placing, placedTable, looking, joining, joinedTable, Patterns};
+ghost use Rattle.pimlasut.specs.Boundary.{ifSized, after, isRecord, isTable, factsLength, factsOf, factsAfter, answerInto, singles, placing, placedTable, looking, joining, joinedTable, Patterns};
 
 // 01, Refusal numbers, as C's functions give them.
 const WRONG_LENGTH: u32 = Refusal::UNFIT_OUTPUT as u32;
@@ -75,9 +75,9 @@ fn give_reading(reading: Reading, numbers: &mut [i32], facts: &mut [u32]) -> u32
 
 #[no_mangle]
 pub extern "C" fn pim_read_bare(input: &[u8], numbers: &mut [i32], facts: &mut [u32]) -> u32
-    ensures result { λ r. ⌜ r ≡ ifFit (isRecord (now (numbers .entry)) && isFacts (now (facts .entry))) (readBare (now (input .entry))) .result ⌝ }
+    ensures result { λ r. ⌜ r ≡ answerInto (now (numbers .entry)) (now (facts .entry)) (readBare (now (input .entry))) .result ⌝ }
     ensures record { λ r. ⌜ now (numbers .exit) ≡ after r (flat (readBare (now (input .entry)) .«record»)) (now (numbers .entry)) ⌝ }
-    ensures facts { λ r. ⌜ now (facts .exit) ≡ factsAfter (ifFit (isRecord (now (numbers .entry)) && isFacts (now (facts .entry))) (readBare (now (input .entry)))) (now (facts .entry)) ⌝ }
+    ensures facts { λ r. ⌜ now (facts .exit) ≡ factsAfter (answerInto (now (numbers .entry)) (now (facts .entry)) (readBare (now (input .entry)))) (now (facts .entry)) ⌝ }
 {
     if (numbers.len() != flat::NUMBERS) | (facts.len() != FACTS) {
         clear_facts(facts);
@@ -89,9 +89,9 @@ pub extern "C" fn pim_read_bare(input: &[u8], numbers: &mut [i32], facts: &mut [
 
 #[no_mangle]
 pub extern "C" fn pim_read_wrapped(input: &[u8], numbers: &mut [i32], facts: &mut [u32]) -> u32
-    ensures result { λ r. ⌜ r ≡ ifFit (isRecord (now (numbers .entry)) && isFacts (now (facts .entry))) (readWrapped (now (input .entry))) .result ⌝ }
+    ensures result { λ r. ⌜ r ≡ answerInto (now (numbers .entry)) (now (facts .entry)) (readWrapped (now (input .entry))) .result ⌝ }
     ensures record { λ r. ⌜ now (numbers .exit) ≡ after r (flat (readWrapped (now (input .entry)) .«record»)) (now (numbers .entry)) ⌝ }
-    ensures facts { λ r. ⌜ now (facts .exit) ≡ factsAfter (ifFit (isRecord (now (numbers .entry)) && isFacts (now (facts .entry))) (readWrapped (now (input .entry)))) (now (facts .entry)) ⌝ }
+    ensures facts { λ r. ⌜ now (facts .exit) ≡ factsAfter (answerInto (now (numbers .entry)) (now (facts .entry)) (readWrapped (now (input .entry)))) (now (facts .entry)) ⌝ }
 {
     if (numbers.len() != flat::NUMBERS) | (facts.len() != FACTS) {
         clear_facts(facts);
@@ -103,9 +103,9 @@ pub extern "C" fn pim_read_wrapped(input: &[u8], numbers: &mut [i32], facts: &mu
 
 #[no_mangle]
 pub extern "C" fn pim_read_unit(input: &[u8], numbers: &mut [i32], facts: &mut [u32]) -> u32
-    ensures result { λ r. ⌜ r ≡ ifFit (isRecord (now (numbers .entry)) && isFacts (now (facts .entry))) (readUnit (now (input .entry))) .result ⌝ }
+    ensures result { λ r. ⌜ r ≡ answerInto (now (numbers .entry)) (now (facts .entry)) (readUnit (now (input .entry))) .result ⌝ }
     ensures record { λ r. ⌜ now (numbers .exit) ≡ after r (flat (readUnit (now (input .entry)) .«record»)) (now (numbers .entry)) ⌝ }
-    ensures facts { λ r. ⌜ now (facts .exit) ≡ factsAfter (ifFit (isRecord (now (numbers .entry)) && isFacts (now (facts .entry))) (readUnit (now (input .entry)))) (now (facts .entry)) ⌝ }
+    ensures facts { λ r. ⌜ now (facts .exit) ≡ factsAfter (answerInto (now (numbers .entry)) (now (facts .entry)) (readUnit (now (input .entry)))) (now (facts .entry)) ⌝ }
 {
     if (numbers.len() != flat::NUMBERS) | (facts.len() != FACTS) {
         clear_facts(facts);

@@ -1,10 +1,11 @@
 -- Demand 1 for reading, and the reading half of demand 2, as request b has it.
-use Prim.Native.Nat.{ℕ, _≤_}
+use Prim.Native.Nat.{ℕ, _+_, _≤_}
 use mathlib.Core.Path.{_≡_, refl, ap, sym, _∙_}
 use mathlib.Core.List.{List, _∷_}
 use mathlib.Core.Bool.{Bool, true, false, _||_}
 use native.Mathlib.Omega.{arith}
 use lib.Dec.{eqb}
+use lib.ListN.{length}
 use Rattle.tree.specs.Bits.{bitsOf, Bytes}
 use Rattle.tree.specs.Reading.{Fault, numberIn, Out, ok, no}
 use Rattle.record.specs.declared.Record.{Record}
@@ -17,7 +18,7 @@ use Rattle.syntax.specs.Element.{payload, dataPayload, dataWidth, WellFormedDat
 use Rattle.syntax.specs.Wrapper.{wrappedData, wrappedPayload, wrappedDataPayload}
 use Rattle.syntax.specs.Reason.{dataNumbers, wrappedNumbers}
 use Rattle.syntax.proofs.Exact.{accepted-is-a-payload, a-payload-is-accepted}
-use Rattle.syntax.proofs.Records.{no-more-passed, the-record-is-valid, data-is-well-formed, record-of-data, none-passed, same-payload, same-width, with-nothing-passed}
+use Rattle.syntax.proofs.Records.{kept-and-passed, the-record-is-valid, data-is-well-formed, record-of-data, none-passed, same-payload, same-width, with-nothing-passed}
 use Rattle.syntax.proofs.Reasons.{data-gets-a-listed-number}
 use Rattle.syntax.proofs.Wrapped.{accepted-is-a-wrapped-payload, a-wrapped-payload-is-accepted, same-wrapped-payload, wrapped-data-gets-a-listed-number as wrapped-data-is-listed}
 use Rattle.reader.specs.declared.Reading.{Reading}
@@ -74,6 +75,16 @@ pub wrapped-data-gets-a-listed-number : (s : List ℕ) → among (readWrapped s 
 unfolding among
 wrapped-data-gets-a-listed-number s = one-of wrappedNumbers refl (wrappedData (bitsOf s)) (wrapped-data-is-listed (bitsOf s))
 
+-- 02, b: 8 no longer occurs
+pub eight-is-none : (n : ℕ) (ns : List ℕ) → among 8 ns ≡ false → among n ns ≡ true → n ≡ 8 → ⊥
+eight-is-none n ns h k e =
+    let x : false ≡ true = sym h ∙ (rw e at k) in
+    let z : _≡_ {A = ℕ} 0 1 = cc in omega arith
+
+pub eight-does-not-occur : (s : List ℕ) → (readBare s .result ≡ 8 → ⊥) × (readWrapped s .result ≡ 8 → ⊥)
+unfolding among
+eight-does-not-occur s = (eight-is-none (readBare s .result) (0 ∷ dataNumbers) refl (bare-data-gets-a-listed-number s), eight-is-none (readWrapped s .result) (0 ∷ wrappedNumbers) refl (wrapped-data-gets-a-listed-number s))
+
 -- on a refusal the record is empty, the bits read are 0 and nothing is said to be passed over, bare and wrapped
 pub a-refusal-is-empty : (o : Out Name Data) → (readingOf o .result ≡ 0 → ⊥) → (readingOf o .«record» ≡ emptyRecord) × (readingOf o .bits ≡ 0) × (readingOf o .skipped ≡ 0)
 a-refusal-is-empty (ok d n) h = absurd (h refl)
@@ -91,9 +102,9 @@ module _ (bytesOf : Data → List ℕ) (s : List ℕ) (q : Reading) (c : Carries
   pub carried-is-valid : Proper (q .«record»)
   carried-is-valid = rw (c .reading) (the-record-is-valid (c .held) (c .fits))
 
-  -- never more than 254 blocks are passed over
-  pub few-are-skipped : q .skipped ≤ 254
-  few-are-skipped = rw (c .reading) (omega (arith, c .fits .few, no-more-passed (c .held .items)))
+  -- each block that is announced is in the record or passed over, and there are never more than 254
+  pub announced-are-kept-or-skipped : (q .«record» .count + q .skipped ≡ length (c .held .items)) × (length (c .held .items) ≤ 254)
+  announced-are-kept-or-skipped = rw (c .reading) (kept-and-passed (c .held .items), c .fits .few)
 
   -- with nothing passed over, what it holds is its record and nothing else
   carried-plain : q .skipped ≡ 0 → c .held ≡ dataOf (q .«record»)

@@ -38,7 +38,7 @@ use Rattle.promises.specs.Units.{HoldsData, unitNumbers}
 use Rattle.promises.specs.Payloads.{readingFor, plainReading}
 use Rattle.sei.proofs.Functions.{most-unit-bytes}
 use Rattle.sei.proofs.Units.{gets-30, gets-31, gets-32, gets-33, ours-is-read, one-of-five, is-a-unit, unit-is-read}
-use Rattle.promises.proofs.Reading.{bare-data-gets-a-listed-number, a-refusal-is-empty, wrapped-data-gets-a-listed-number, plain-is, accepted-wrapped-carries-data, every-wrapped-payload-is-read}
+use Rattle.promises.proofs.Reading.{eight-is-none, bare-data-gets-a-listed-number, a-refusal-is-empty, wrapped-data-gets-a-listed-number, plain-is, accepted-wrapped-carries-data, every-wrapped-payload-is-read}
 use Rattle.promises.proofs.Writing.{accepted-wrapped-writes-back}
 
 -- ---- 30 to 33
@@ -303,6 +303,10 @@ a-unit-gets-a-listed-number u h = go (one-of-five u h)
     go (inr (inr (inr (inl t)))) = at (refusedReading 33) (gets-33 u h t) refl
     go (inr (inr (inr (inr (m, t))))) =
         at (readBare (drop 8 (m .content))) (ours-is-read u h m t ∙ our-message-is-read-as-data m (t .first .ours)) (further (readBare (drop 8 (m .content)) .result) (bare-data-gets-a-listed-number (drop 8 (m .content))))
+
+pub eight-does-not-occur-in-a-unit : (u : List ℕ) → Bytes u → readUnit u .result ≡ 8 → ⊥
+unfolding among
+eight-does-not-occur-in-a-unit u h = eight-is-none (readUnit u .result) unitNumbers refl (a-unit-gets-a-listed-number u h)
 
 pub a-refused-unit-is-empty : (u : List ℕ) → Bytes u → (readUnit u .result ≡ 0 → ⊥) → (readUnit u .«record» ≡ emptyRecord) × (readUnit u .bits ≡ 0) × (readUnit u .skipped ≡ 0)
 a-refused-unit-is-empty u h n = go (one-of-five u h)

@@ -34,19 +34,19 @@ use Rattle.syntax.proofs.Items.{behind, blocks-only}
 use Rattle.syntax.proofs.Steps.{read-may-follow, read-may-not-follow}
 use Rattle.syntax.proofs.Exact.{holding, lastly, afterHead, afterFirst, data-spells, whole-data}
 use Rattle.syntax.proofs.Largest.{blockMost, mostBits, widths-items, most-data-bits}
-use Rattle.syntax.proofs.Records.{no-more-passed}
+use Rattle.syntax.proofs.Records.{kept-and-passed}
 use Rattle.syntax.proofs.Reasons.{kept-more}
 use Rattle.block.specs.Parts.{partOf}
 use Rattle.block.specs.declared.Part.the-variants.{Kept, Passed, Refused as RefusedPart}
-use Rattle.block.proofs.Laws.{blockBits, accepted-few, accepted-fits, part-kept, part-passed, part-no}
+use Rattle.block.proofs.Laws.{accepted-few, accepted-fits, part-kept, part-passed, part-no}
 use Rattle.head.specs.Opening.{opening, alignedHead}
 use Rattle.head.proofs.Laws.{opening-few, zeros-took}
 use Rattle.reader.specs.declared.Found.{Found}
-use Rattle.reader.specs.Reading.{Shown, shown, shownOf, shownIn, foundOf, refusedFound, readingOf, refusedReading, headAndBlocks}
+use Rattle.reader.specs.Reading.{Summary, summary, summaryOf, summaryIn, foundOf, refusedFound, readingOf, refusedReading, headAndBlocks}
 
 -- ---- answers
 
-pub found-ok : (o : Out Name Shown) (x : Found) → x ≡ foundOf o → x .ok ≡ true → o ≡ ok (shown (x .«record») (x .skipped)) (x .width)
+pub found-ok : (o : Out Name Summary) (x : Found) → x ≡ foundOf o → x .ok ≡ true → o ≡ ok (summary (x .«record») (x .skipped)) (x .width)
 found-ok (ok r m) x e h =
     let a : x .«record» ≡ r .«record» = ap (λ (f : Found). f .«record») e in
     let b : x .width ≡ m = ap (λ (f : Found). f .width) e in
@@ -56,17 +56,17 @@ found-ok (no q) x e h =
     let a : true ≡ false = sym h ∙ ap (λ (f : Found). f .ok) e in
     let z : _≡_ {A = ℕ} 0 1 = cc in clash z
 
-pub found-no : (o : Out Name Shown) (x : Found) → x ≡ foundOf o → x .ok ≡ false → (f : Fault Name) × (o ≡ no f) × (x .why ≡ refusal (numberIn f))
+pub found-no : (o : Out Name Summary) (x : Found) → x ≡ foundOf o → x .ok ≡ false → (f : Fault Name) × (o ≡ no f) × (x .why ≡ refusal (numberIn f))
 found-no (ok r m) x e h =
     let a : false ≡ true = sym h ∙ ap (λ (f : Found). f .ok) e in
     let z : _≡_ {A = ℕ} 0 1 = cc in clash z
 found-no (no q) x e h = (q, refl, ap (λ (f : Found). f .why) e)
 
 -- a fault, by its number
-by-number : (r : Refusal) (f : Fault Name) (o : Out Name Shown) → r ≡ refusal (numberIn f) → o ≡ no f → refusedFound r ≡ foundOf o
+by-number : (r : Refusal) (f : Fault Name) (o : Out Name Summary) → r ≡ refusal (numberIn f) → o ≡ no f → refusedFound r ≡ foundOf o
 by-number r f o e q = rw (q, e)
 
--- what is shown of data
+-- what data comes to
 mapped-ok : {A B : Type 0} (f : A → B) (o : Out Name A) (b : B) (n : ℕ) → mapped f o ≡ ok b n → (a : A) × (o ≡ ok a n) × (f a ≡ b)
 mapped-ok f (ok a m) b n e =
     let k : m ≡ n = cc in
@@ -120,7 +120,7 @@ module _ (before : List Block) (k at : ℕ) (s : List Bool) where
       next-read i m e ∙ ap (widened m) (follows i m (own i m e) h ∙ then-done (blocksAfter (before ++ keptIn (i ∷ [])) k) (λ is. i ∷ is) (at + m) (drop m s))
 
 regroup : (flag : Bool) (met : List Item) (i : Item) (width m : ℕ) (o : Out Name (List Item))
-    → widened (width + m) (mapped (λ rest. shownOf flag ((met ++ (i ∷ [])) ++ rest)) o) ≡ widened width (mapped (λ rest. shownOf flag (met ++ rest)) (widened m (mapped (λ is. i ∷ is) o)))
+    → widened (width + m) (mapped (λ rest. summaryOf flag ((met ++ (i ∷ [])) ++ rest)) o) ≡ widened width (mapped (λ rest. summaryOf flag (met ++ rest)) (widened m (mapped (λ is. i ∷ is) o)))
 regroup flag met i width m (ok is j) =
     let e : width + m + j ≡ width + (m + j) = omega arith in
     rw (e, append-assoc met (i ∷ []) is)
@@ -136,17 +136,17 @@ passed-more (passed l n zs ∷ is) i = omega (arith, passed-more is i)
 -- the walk over n blocks: i are met, they took `width` bits, r holds the known ones, and the others are `skipped`; the answer from here is
 -- the answer from the start
 module _ (flag : Bool) (bits : List Bool) (start n : ℕ) where
-  abbrev allOf : Out Name Shown
-  allOf = mapped (shownOf flag) (read (blocksAfter [] n) start (drop start bits))
+  abbrev allOf : Out Name Summary
+  allOf = mapped (summaryOf flag) (read (blocksAfter [] n) start (drop start bits))
 
-  abbrev from : List Item → ℕ → ℕ → Out Name Shown
-  from met width i = widened width (mapped (λ rest. shownOf flag (met ++ rest)) (read (blocksAfter (keptIn met) (n - i)) (start + width) (drop (start + width) bits)))
+  abbrev from : List Item → ℕ → ℕ → Out Name Summary
+  from met width i = widened width (mapped (λ rest. summaryOf flag (met ++ rest)) (read (blocksAfter (keptIn met) (n - i)) (start + width) (drop (start + width) bits)))
 
 pub record Reached (flag : Bool) (bits : List Bool) (start n : ℕ) (r : Record) (width skipped i : ℕ) : Type 0 where
   pub met : List Item
   pub few : i ≤ n
   pub many : length met ≡ i
-  pub short : width ≤ blockBits * i
+  pub short : width ≤ blockMost * i
   pub walk : wellFormed [] (keptIn met) ≡ true
   pub made : r ≡ recordOf flag (keptIn met)
   pub others : skipped ≡ passedIn met
@@ -165,16 +165,16 @@ module _ (flag : Bool) (bits : List Bool) (start n : ℕ) where
     reached-count = rw (x .made) (few-blocks (keptIn (x .met)) (x .walk))
 
     pub reached-few : skipped ≤ i
-    reached-few = omega (arith, x .others, x .many, no-more-passed (x .met))
+    reached-few = omega (arith, x .others, x .many, kept-and-passed (x .met))
 
     reached-met : blocks r ≡ keptIn (x .met)
     reached-met = rw (x .made) (blocks-made flag (keptIn (x .met)))
 
-    pub reached-all : i ≡ n → foundOf (ok (shown r skipped) width) ≡ foundOf (allOf flag bits start n)
+    pub reached-all : i ≡ n → foundOf (ok (summary r skipped) width) ≡ foundOf (allOf flag bits start n)
     unfolding blocksAfter read
     reached-all h =
         let e : n - i ≡ 0 = omega arith in
-        let a : from flag bits start n (x .met) width i ≡ ok (shown r skipped) width = rw (e, append-nil (x .met), add-zero width, x .made, x .others) refl in
+        let a : from flag bits start n (x .met) width i ≡ ok (summary r skipped) width = rw (e, append-nil (x .met), add-zero width, x .made, x .others) refl in
         sym (ap foundOf (sym (x .answer) ∙ a))
 
     module _ (h : i < n) where
@@ -185,7 +185,7 @@ module _ (flag : Bool) (bits : List Bool) (start n : ℕ) where
       there = start + width
 
       -- what is read from here on
-      onward : (o : Out Name (List Item)) → read (blocksAfter (keptIn (x .met)) (suc (n - (i + 1)))) there (drop there bits) ≡ o → allOf flag bits start n ≡ widened width (mapped (λ rest. shownOf flag (x .met ++ rest)) o)
+      onward : (o : Out Name (List Item)) → read (blocksAfter (keptIn (x .met)) (suc (n - (i + 1)))) there (drop there bits) ≡ o → allOf flag bits start n ≡ widened width (mapped (λ rest. summaryOf flag (x .met ++ rest)) o)
       onward o e = sym (x .answer) ∙ rw (next, e) refl
 
       pub reached-no : (q : Refusal) → RefusedPart q ≡ partOf (read block there (drop there bits)) → refusedFound q ≡ foundOf (allOf flag bits start n)
@@ -260,18 +260,18 @@ module _ (flag : Bool) (bits : List Bool) (start n : ℕ) where
 
 -- ---- what stands before the blocks, and the blocks
 
-abbrev blocksOf : Head → Syntax Name Shown
-blocksOf h = blocksAfter [] (h .count) >>= λ is. done (shownOf (h .refresh) is)
+abbrev blocksOf : Head → Syntax Name Summary
+blocksOf h = blocksAfter [] (h .count) >>= λ is. done (summaryOf (h .refresh) is)
 
 -- as the code reads them
-abbrev pub blocksFrom : Head → ℕ → List Bool → Out Name Shown
-blocksFrom h at s = mapped (shownOf (h .refresh)) (read (blocksAfter [] (h .count)) at s)
+abbrev pub blocksFrom : Head → ℕ → List Bool → Out Name Summary
+blocksFrom h at s = mapped (summaryOf (h .refresh)) (read (blocksAfter [] (h .count)) at s)
 
 -- the bits of as many blocks as are announced
-pub blocks-few : (s : List Bool) (h : Head) (at : ℕ) (r : Shown) (m : ℕ) → blocksFrom h at s ≡ ok r m → m ≤ blockMost * h .count
+pub blocks-few : (s : List Bool) (h : Head) (at : ℕ) (r : Summary) (m : ℕ) → blocksFrom h at s ≡ ok r m → m ≤ blockMost * h .count
 blocks-few s h at r m e = go (read (blocksAfter [] (h .count)) at s) (every-answer-is-true (blocksAfter [] (h .count)) at s) e
   where
-    go : (o : Out Name (List Item)) → Means (blocksAfter [] (h .count)) at s o → mapped (shownOf (h .refresh)) o ≡ ok r m → m ≤ blockMost * h .count
+    go : (o : Out Name (List Item)) → Means (blocksAfter [] (h .count)) at s o → mapped (summaryOf (h .refresh)) o ≡ ok r m → m ≤ blockMost * h .count
     go (ok is n) y q =
         let k : n ≡ m = cc in
         let b = blocks-only (h .count) [] at (y .0) is (y .1) in
@@ -292,15 +292,15 @@ module _ (s : List Bool) where
   module _ (h : Head) (n : ℕ) (e : read opening 0 s ≡ ok h n) where
     both : read headAndBlocks 0 s ≡ widened n (blocksFrom h n (drop n s))
     unfolding headAndBlocks
-    both = then-ok opening blocksOf 0 s h n e ∙ rw (zero-add n) (ap (widened n) (then-done (blocksAfter [] (h .count)) (shownOf (h .refresh)) n (drop n s)))
+    both = then-ok opening blocksOf 0 s h n e ∙ rw (zero-add n) (ap (widened n) (then-done (blocksAfter [] (h .count)) (summaryOf (h .refresh)) n (drop n s)))
 
     pub both-later : (f : Fault Name) → blocksFrom h n (drop n s) ≡ no f → read headAndBlocks 0 s ≡ no f
     both-later f g = both ∙ ap (widened n) g
 
-    pub both-ok : (r : Shown) (m : ℕ) → blocksFrom h n (drop n s) ≡ ok r m → read headAndBlocks 0 s ≡ ok r (n + m)
+    pub both-ok : (r : Summary) (m : ℕ) → blocksFrom h n (drop n s) ≡ ok r m → read headAndBlocks 0 s ≡ ok r (n + m)
     both-ok r m g = both ∙ ap (widened n) g
 
-  pub both-few : (r : Shown) (n : ℕ) → read headAndBlocks 0 s ≡ ok r n → n ≤ 24 + blockMost * mostAnnounced
+  pub both-few : (r : Summary) (n : ℕ) → read headAndBlocks 0 s ≡ ok r n → n ≤ 24 + blockMost * mostAnnounced
   both-few r n e = go (read opening 0 s) refl
     where
       go : (o : Out Name Head) → read opening 0 s ≡ o → n ≤ 24 + blockMost * mostAnnounced
@@ -308,7 +308,7 @@ module _ (s : List Bool) where
           let f = opening-few s h m q in
           rest (blocksFrom h m (drop m s)) refl (f .0) (f .1)
         where
-          rest : (o : Out Name Shown) → blocksFrom h m (drop m s) ≡ o → h .count ≤ mostAnnounced → m ≤ 24 → n ≤ 24 + blockMost * mostAnnounced
+          rest : (o : Out Name Summary) → blocksFrom h m (drop m s) ≡ o → h .count ≤ mostAnnounced → m ≤ 24 → n ≤ 24 + blockMost * mostAnnounced
           rest (ok x j) w c l =
               let y : ok x (m + j) ≡ ok r n = sym (both-ok h m q x j w) ∙ e in
               let z : m + j ≡ n = cc in
@@ -318,51 +318,51 @@ module _ (s : List Bool) where
 
 -- ---- zero bits to the next byte boundary
 
-abbrev ending : Shown → Syntax Name Shown
+abbrev ending : Summary → Syntax Name Summary
 ending r = alignment «dm_alignment_zero_bit» >>= λ z. done r
 
--- what is shown of data
-abbrev showing : Data → Syntax Name Shown
-showing d = done (shownIn d)
+-- what data comes to
+abbrev summing : Data → Syntax Name Summary
+summing d = done (summaryIn d)
 
 -- the whole table is what is read up to the last block, and zero bits
 module _ (h : Head) where
   -- the blocks and the zero bits behind them, either way
-  abbrev shownAfter : Syntax Name Shown
-  shownAfter = blocksAfter [] (h .count) >>= λ is. ending (shownOf (h .refresh) is)
+  abbrev summaryAfter : Syntax Name Summary
+  summaryAfter = blocksAfter [] (h .count) >>= λ is. ending (summaryOf (h .refresh) is)
 
-  lastly-shown : (is : List Item) (at : ℕ) (t : List Bool) → read (lastly h is >>= showing) at t ≡ read (ending (shownOf (h .refresh) is)) at t
+  lastly-summed : (is : List Item) (at : ℕ) (t : List Bool) → read (lastly h is >>= summing) at t ≡ read (ending (summaryOf (h .refresh) is)) at t
   unfolding _>>=_
-  lastly-shown is at t = then-then (alignment «dm_alignment_zero_bit») (λ z. done (holding h is)) showing at t
+  lastly-summed is at t = then-then (alignment «dm_alignment_zero_bit») (λ z. done (holding h is)) summing at t
 
-  first-shown : (at : ℕ) (t : List Bool) → read (afterFirst h >>= showing) at t ≡ read shownAfter at t
-  first-shown at t =
-      then-then (blocksAfter [] (h .count)) (lastly h) showing at t
-      ∙ then-same (blocksAfter [] (h .count)) (λ is. lastly h is >>= showing) (λ is. ending (shownOf (h .refresh) is)) lastly-shown at t
+  first-summed : (at : ℕ) (t : List Bool) → read (afterFirst h >>= summing) at t ≡ read summaryAfter at t
+  first-summed at t =
+      then-then (blocksAfter [] (h .count)) (lastly h) summing at t
+      ∙ then-same (blocksAfter [] (h .count)) (λ is. lastly h is >>= summing) (λ is. ending (summaryOf (h .refresh) is)) lastly-summed at t
 
-  blocks-end : (at : ℕ) (t : List Bool) → read (blocksOf h >>= ending) at t ≡ read shownAfter at t
+  blocks-end : (at : ℕ) (t : List Bool) → read (blocksOf h >>= ending) at t ≡ read summaryAfter at t
   unfolding _>>=_
-  blocks-end at t = then-then (blocksAfter [] (h .count)) (λ is. done (shownOf (h .refresh) is)) ending at t
+  blocks-end at t = then-then (blocksAfter [] (h .count)) (λ is. done (summaryOf (h .refresh) is)) ending at t
 
-  head-shown : (at : ℕ) (t : List Bool) → read (afterHead h >>= showing) at t ≡ read (firstAlignment (h .count) >>= λ y. shownAfter) at t
-  head-shown at t =
-      then-then (firstAlignment (h .count)) (λ y. afterFirst h) showing at t
-      ∙ then-same (firstAlignment (h .count)) (λ y. afterFirst h >>= showing) (λ y. shownAfter) (λ y. first-shown) at t
+  head-summed : (at : ℕ) (t : List Bool) → read (afterHead h >>= summing) at t ≡ read (firstAlignment (h .count) >>= λ y. summaryAfter) at t
+  head-summed at t =
+      then-then (firstAlignment (h .count)) (λ y. afterFirst h) summing at t
+      ∙ then-same (firstAlignment (h .count)) (λ y. afterFirst h >>= summing) (λ y. summaryAfter) (λ y. first-summed) at t
 
-  head-end : (at : ℕ) (t : List Bool) → read (alignedHead h >>= λ g. blocksOf g >>= ending) at t ≡ read (firstAlignment (h .count) >>= λ y. shownAfter) at t
+  head-end : (at : ℕ) (t : List Bool) → read (alignedHead h >>= λ g. blocksOf g >>= ending) at t ≡ read (firstAlignment (h .count) >>= λ y. summaryAfter) at t
   unfolding alignedHead _>>=_
   head-end at t =
       then-then (firstAlignment (h .count)) (λ y. done h) (λ g. blocksOf g >>= ending) at t
-      ∙ then-same (firstAlignment (h .count)) (λ y. blocksOf h >>= ending) (λ y. shownAfter) (λ y. blocks-end) at t
+      ∙ then-same (firstAlignment (h .count)) (λ y. blocksOf h >>= ending) (λ y. summaryAfter) (λ y. blocks-end) at t
 
-data-read : (s : List Bool) → mapped shownIn (read «ST2094-10_data» 0 s) ≡ read (headAndBlocks >>= ending) 0 s
+data-read : (s : List Bool) → mapped summaryIn (read «ST2094-10_data» 0 s) ≡ read (headAndBlocks >>= ending) 0 s
 unfolding «ST2094-10_data» headAndBlocks opening
 data-read s =
-    sym (then-done «ST2094-10_data» shownIn 0 s) ∙ then-then head afterHead showing 0 s
-    ∙ then-same head (λ h. afterHead h >>= showing) (λ h. alignedHead h >>= λ g. blocksOf g >>= ending) (λ h at t. head-shown h at t ∙ sym (head-end h at t)) 0 s
+    sym (then-done «ST2094-10_data» summaryIn 0 s) ∙ then-then head afterHead summing 0 s
+    ∙ then-same head (λ h. afterHead h >>= summing) (λ h. alignedHead h >>= λ g. blocksOf g >>= ending) (λ h at t. head-summed h at t ∙ sym (head-end h at t)) 0 s
     ∙ sym (then-then opening blocksOf ending 0 s ∙ then-then head alignedHead (λ h. blocksOf h >>= ending) 0 s)
 
-module _ (r : Shown) (at : ℕ) (s : List Bool) where
+module _ (r : Summary) (at : ℕ) (s : List Bool) where
   gap-read : read (alignment «dm_alignment_zero_bit») at s ≡ read (zeroBits «dm_alignment_zero_bit» (toBoundary at)) at s
   unfolding read
   gap-read = refl
@@ -374,17 +374,17 @@ module _ (r : Shown) (at : ℕ) (s : List Bool) where
   ending-ok n e = then-done (alignment «dm_alignment_zero_bit») (λ z. r) at s ∙ ap (mapped (λ z. r)) (gap-read ∙ e)
 
 module _ (s : List Bool) where
-  pub data-refused : (f : Fault Name) → read headAndBlocks 0 s ≡ no f → mapped shownIn (read «ST2094-10_data» 0 s) ≡ no f
+  pub data-refused : (f : Fault Name) → read headAndBlocks 0 s ≡ no f → mapped summaryIn (read «ST2094-10_data» 0 s) ≡ no f
   data-refused f e = data-read s ∙ then-no headAndBlocks ending 0 s f e
 
-  module _ (r : Shown) (n : ℕ) (e : read headAndBlocks 0 s ≡ ok r n) where
-    before-the-end : mapped shownIn (read «ST2094-10_data» 0 s) ≡ widened n (read (ending r) n (drop n s))
+  module _ (r : Summary) (n : ℕ) (e : read headAndBlocks 0 s ≡ ok r n) where
+    before-the-end : mapped summaryIn (read «ST2094-10_data» 0 s) ≡ widened n (read (ending r) n (drop n s))
     before-the-end = data-read s ∙ then-ok headAndBlocks ending 0 s r n e ∙ rw (zero-add n) refl
 
-    pub data-later : (q : Refusal) → RefusedNumber q ≡ spanOf (read (zeroBits nameless (toBoundary n)) n (drop n s)) → refusedFound q ≡ foundOf (mapped shownIn (read «ST2094-10_data» 0 s))
+    pub data-later : (q : Refusal) → RefusedNumber q ≡ spanOf (read (zeroBits nameless (toBoundary n)) n (drop n s)) → refusedFound q ≡ foundOf (mapped summaryIn (read «ST2094-10_data» 0 s))
     data-later q g =
         let f = spans-no (read (zeroBits «dm_alignment_zero_bit» (toBoundary n)) n (drop n s)) q (g ∙ named-zeros «dm_alignment_zero_bit» (toBoundary n) n (drop n s)) in
-        by-number q (f .0) (mapped shownIn (read «ST2094-10_data» 0 s)) (f .2) (before-the-end ∙ ap (widened n) (ending-no r n (drop n s) (f .0) (f .1)))
+        by-number q (f .0) (mapped summaryIn (read «ST2094-10_data» 0 s)) (f .2) (before-the-end ∙ ap (widened n) (ending-no r n (drop n s) (f .0) (f .1)))
 
     module _ (z m : ℕ) (g : IsNumber z m ≡ spanOf (read (zeroBits nameless (toBoundary n)) n (drop n s))) where
       end-read : read (zeroBits «dm_alignment_zero_bit» (toBoundary n)) n (drop n s) ≡ ok tt m
@@ -393,7 +393,7 @@ module _ (s : List Bool) where
       pub end-took : m ≡ toBoundary n
       end-took = zeros-took «dm_alignment_zero_bit» (toBoundary n) n (drop n s) m end-read
 
-      pub data-ok : mapped shownIn (read «ST2094-10_data» 0 s) ≡ ok r (n + m)
+      pub data-ok : mapped summaryIn (read «ST2094-10_data» 0 s) ≡ ok r (n + m)
       data-ok = before-the-end ∙ ap (widened n) (ending-ok r n (drop n s) m end-read)
 
 -- ---- the end of the input
@@ -417,13 +417,13 @@ module _ (s : List Bool) (d : Data) (n : ℕ) (e : read «ST2094-10_data» 0 s �
   whole-input h = rw (e, range-of-one 0 (length (drop n s) / 8), eq-eqb (length (drop n s) / 8) 0 h, add-zero n) refl
 
 module _ (s : List Bool) where
-  pub data-no : (q : Refusal) → (f : Fault Name) × (mapped shownIn (read «ST2094-10_data» 0 s) ≡ no f) × (q ≡ refusal (numberIn f)) → refusedReading (q .number) ≡ readingOf (bareData s)
+  pub data-no : (q : Refusal) → (f : Fault Name) × (mapped summaryIn (read «ST2094-10_data» 0 s) ≡ no f) × (q ≡ refusal (numberIn f)) → refusedReading (q .number) ≡ readingOf (bareData s)
   unfolding readWhole
-  data-no q (f, e, w) = ap (λ (x : Refusal). refusedReading (x .number)) w ∙ sym (rw (mapped-no shownIn (read «ST2094-10_data» 0 s) f e) refl)
+  data-no q (f, e, w) = ap (λ (x : Refusal). refusedReading (x .number)) w ∙ sym (rw (mapped-no summaryIn (read «ST2094-10_data» 0 s) f e) refl)
 
-  module _ (r : Record) (k n : ℕ) (e : mapped shownIn (read «ST2094-10_data» 0 s) ≡ ok (shown r k) n) where
-    abbrev accepted : (d : Data) × (read «ST2094-10_data» 0 s ≡ ok d n) × (shownIn d ≡ shown r k)
-    accepted = mapped-ok shownIn (read «ST2094-10_data» 0 s) (shown r k) n e
+  module _ (r : Record) (k n : ℕ) (e : mapped summaryIn (read «ST2094-10_data» 0 s) ≡ ok (summary r k) n) where
+    abbrev accepted : (d : Data) × (read «ST2094-10_data» 0 s ≡ ok d n) × (summaryIn d ≡ summary r k)
+    accepted = mapped-ok summaryIn (read «ST2094-10_data» 0 s) (summary r k) n e
 
     pub data-whole : (n % 8 ≡ 0) × (n ≤ mostBits)
     data-whole = whole-bytes s (accepted .0) n (accepted .1)
@@ -432,4 +432,4 @@ module _ (s : List Bool) where
     data-remains h = left-over s (accepted .0) n (accepted .1) h
 
     pub data-is : length (drop n s) / 8 ≡ 0 → record { result = 0; bits = n; skipped = k; «record» = r } ≡ readingOf (bareData s)
-    data-is h = sym (whole-input s (accepted .0) n (accepted .1) h ∙ ap (λ (y : Shown). record { result = 0; bits = n; skipped = y .skipped; «record» = y .«record» }) (accepted .2))
+    data-is h = sym (whole-input s (accepted .0) n (accepted .1) h ∙ ap (λ (y : Summary). record { result = 0; bits = n; skipped = y .skipped; «record» = y .«record» }) (accepted .2))

@@ -16,7 +16,8 @@ use Rattle.head.specs.Opening.{opening}
 use Rattle.reader.specs.declared.Found.{Found}
 use Rattle.reader.specs.declared.Reading.{Reading}
 
--- 01, The record: an accepted reading gives the record and the bits read, and by 02, b the number of blocks passed over; on a refusal these are the empty record, 0 and 0
+-- 01, The record: an accepted reading gives the record and the bits read, and by 02, b the number of blocks passed over; on a refusal
+-- these are the empty record, 0 and 0
 abbrev pub refusedReading : ℕ → Reading
 refusedReading k = record { result = k; bits = 0; skipped = 0; «record» = emptyRecord }
 
@@ -30,19 +31,19 @@ readBare s = readingOf (bareData (bitsOf s))
 
 -- ---- on the way to it
 
--- what is shown of blocks: the record of the known ones, and how many are passed over
-pub record Shown : Type 0 where
+-- what blocks come to: the record of the known ones, and how many are passed over
+pub record Summary : Type 0 where
   pub «record» : Record
   pub skipped : ℕ
 
-abbrev pub shown : Record → ℕ → Shown
-shown r n = record { «record» = r; skipped = n }
+abbrev pub summary : Record → ℕ → Summary
+summary r n = record { «record» = r; skipped = n }
 
-abbrev pub shownOf : Bool → List Item → Shown
-shownOf flag is = shown (recordOf flag (keptIn is)) (passedIn is)
+abbrev pub summaryOf : Bool → List Item → Summary
+summaryOf flag is = summary (recordOf flag (keptIn is)) (passedIn is)
 
-abbrev pub shownIn : Data → Shown
-shownIn d = shownOf (d .refresh) (d .items)
+abbrev pub summaryIn : Data → Summary
+summaryIn d = summaryOf (d .refresh) (d .items)
 
 -- no refusal
 abbrev pub nothingWrong : Refusal
@@ -52,13 +53,13 @@ nothingWrong = refusal 0
 abbrev pub refusedFound : Refusal → Found
 refusedFound q = record { ok = false; why = q; width = 0; skipped = 0; «record» = emptyRecord }
 
-abbrev pub foundOf : Out Name Shown → Found
+abbrev pub foundOf : Out Name Summary → Found
 foundOf (ok x n) = record { ok = true; why = nothingWrong; width = n; skipped = x .skipped; «record» = x .«record» }
 foundOf (no f) = refusedFound (refusal (numberIn f))
 
 -- what stands before the blocks, and the blocks
-unfoldable pub headAndBlocks : Syntax Name Shown
+unfoldable pub headAndBlocks : Syntax Name Summary
 headAndBlocks = do
   h ← opening
   is ← blocksAfter [] (h .count)
-  done (shownOf (h .refresh) is)
+  done (summaryOf (h .refresh) is)

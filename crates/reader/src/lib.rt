@@ -12,7 +12,7 @@ ghost use Rattle.tree.specs.Bits.{bitsOf};
 ghost use Rattle.tree.specs.Reading.{ok, mapped};
 ghost use Rattle.tree.specs.Syntax.{read};
 ghost use Rattle.syntax.specs.Data.{mostAnnounced, blocksAfter, «ST2094-10_data»};
-ghost use Rattle.reader.specs.Reading.{readBare, shown, shownOf, shownIn, foundOf, refusedFound, headAndBlocks};
+ghost use Rattle.reader.specs.Reading.{readBare, summary, summaryOf, summaryIn, foundOf, refusedFound, headAndBlocks};
 
 // A record that was found, how many bits it took and how many blocks were passed over, or why there is none.
 struct Found {
@@ -23,7 +23,8 @@ struct Found {
     record: Record,
 }
 
-// 0 or the number of the refusal, the number of blocks of reserved levels that were passed over (beside it, where it takes no room of its own), the bits read, and the record.
+// 0 or the number of the refusal, the number of blocks of reserved levels that were passed over (beside it, where it takes no room of
+// its own), the bits read, and the record.
 pub struct Reading {
     pub result: u8,
     pub skipped: u8,
@@ -32,7 +33,7 @@ pub struct Reading {
 }
 
 fn accepted(width: usize, skipped: u8, record: Record) -> Found
-    ensures { λ r. ⌜ r ≡ foundOf (ok (shown «record» skipped) width) ⌝ }
+    ensures { λ r. ⌜ r ≡ foundOf (ok (summary «record» skipped) width) ⌝ }
 {
     Found {
         ok: true,
@@ -57,10 +58,11 @@ fn refused(why: Refusal) -> Found
     }
 }
 
-// n blocks from position start on, each of which may follow the known ones before it, with nothing between them. The known ones are as many as the record has by then.
+// n blocks from position start on, each of which may follow the known ones before it, with nothing between them. The known ones are as
+// many as the record has by then.
 fn read_blocks(s: &[u8], start: usize, refresh: bool, n: u8) -> Found
     requires { ⌜ (start < 2 ^ 20) × (n ≤ mostAnnounced) ⌝ }
-    ensures { λ r. ⌜ r ≡ foundOf (mapped (shownOf refresh) (read (blocksAfter [] n) start (drop start (bitsOf (now (s .entry)))))) ⌝ }
+    ensures { λ r. ⌜ r ≡ foundOf (mapped (summaryOf refresh) (read (blocksAfter [] n) start (drop start (bitsOf (now (s .entry)))))) ⌝ }
 {
     let mut r = Record::without_blocks(refresh);
     let mut width: usize = 0;
@@ -116,7 +118,7 @@ fn read_head_and_blocks(s: &[u8]) -> Found
 
 // The head, the blocks, and zero bits to the next byte boundary.
 fn read_whole_bytes(s: &[u8]) -> Found
-    ensures { λ r. ⌜ r ≡ foundOf (mapped shownIn (read «ST2094-10_data» 0 (bitsOf (now (s .entry))))) ⌝ }
+    ensures { λ r. ⌜ r ≡ foundOf (mapped summaryIn (read «ST2094-10_data» 0 (bitsOf (now (s .entry))))) ⌝ }
 {
     let most = read_head_and_blocks(s);
     if most.ok {

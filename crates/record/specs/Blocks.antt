@@ -11,7 +11,7 @@ use Rattle.record.specs.declared.Place.{Place}
 use Rattle.record.specs.declared.Record.{Record}
 use Rattle.record.specs.Level.{codings, levelOf, valuesOf}
 
--- ours: at most 18 blocks in all
+-- ours: at most 18 blocks in a record
 abbrev pub mostBlocks : ℕ
 mostBlocks = 18
 

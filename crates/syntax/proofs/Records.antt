@@ -31,17 +31,12 @@ kept-walk before (kept b ∷ is) h =
 kept-walk before (passed l n zs ∷ is) h =
     kept-walk before is (rw (append-nil before) at (and-right (itemFits (passed l n zs) && true) (allFit (before ++ []) is) h))
 
-no-more-kept : (is : List Item) → length (keptIn is) ≤ length is
-unfolding keptIn
-no-more-kept [] = omega arith
-no-more-kept (kept b ∷ is) = omega (arith, no-more-kept is)
-no-more-kept (passed l n zs ∷ is) = omega (arith, no-more-kept is)
-
-pub no-more-passed : (is : List Item) → passedIn is ≤ length is
-unfolding passedIn
-no-more-passed [] = omega arith
-no-more-passed (kept b ∷ is) = omega (arith, no-more-passed is)
-no-more-passed (passed l n zs ∷ is) = omega (arith, no-more-passed is)
+-- each block is kept or passed over
+pub kept-and-passed : (is : List Item) → length (keptIn is) + passedIn is ≡ length is
+unfolding keptIn passedIn
+kept-and-passed [] = refl
+kept-and-passed (kept b ∷ is) = omega (arith, kept-and-passed is)
+kept-and-passed (passed l n zs ∷ is) = omega (arith, kept-and-passed is)
 
 -- THE RECORD of well-formed data is valid, with its 18 places: however many blocks are announced, they suffice
 pub the-record-is-valid : (d : Data) → WellFormedData d → Proper (recordFrom d)
@@ -51,7 +46,7 @@ the-record-is-valid d w =
     let few = few-blocks bs k in
     record {
       places = places-made (d .refresh) bs few;
-      valid-record = valid-made (d .refresh) bs few (means-flag (d .refresh) (length bs) (λ q. omega (arith, w .flag q, no-more-kept (d .items)))) k;
+      valid-record = valid-made (d .refresh) bs few (means-flag (d .refresh) (length bs) (λ q. omega (arith, w .flag q, kept-and-passed (d .items)))) k;
     }
 
 -- ---- the data of a record

@@ -7,7 +7,7 @@ use Rattle.tree.specs.Reading.{ok, mapped}
 use Rattle.tree.specs.Syntax.{read}
 use Rattle.tree.proofs.Bits.{length-rest}
 use Rattle.syntax.specs.Data.{«ST2094-10_data»}
-use Rattle.reader.specs.Reading.{shown, shownIn}
+use Rattle.reader.specs.Reading.{summary, summaryIn}
 use Rattle.reader.proofs.Laws.{found-ok, found-no, data-no, data-remains, data-is, data-whole}
 use borrow.Author.Needs.{needs}
 use Rattle.reader.proofs.read_data.Statement.{statement}
@@ -21,8 +21,8 @@ empty-requires c κs = search needs
 
 -- the record and the bits before the end
 all-read : (c : tie.After-empty) → c .before .before .read-whole-bytes .result .ok ≡ true
-    → mapped shownIn (read «ST2094-10_data» 0 (bitsOf (c .before .before .before .before .args .input .now))) ≡ ok (shown (c .before .before .read-whole-bytes .result .«record») (c .before .before .read-whole-bytes .result .skipped)) (c .before .before .read-whole-bytes .result .width)
-all-read c h = found-ok (mapped shownIn (read «ST2094-10_data» 0 (bitsOf (c .before .before .before .before .args .input .now)))) (c .before .before .read-whole-bytes .result) (c .before .before .read-whole-bytes .ensures) h
+    → mapped summaryIn (read «ST2094-10_data» 0 (bitsOf (c .before .before .before .before .args .input .now))) ≡ ok (summary (c .before .before .read-whole-bytes .result .«record») (c .before .before .read-whole-bytes .result .skipped)) (c .before .before .read-whole-bytes .result .width)
+all-read c h = found-ok (mapped summaryIn (read «ST2094-10_data» 0 (bitsOf (c .before .before .before .before .args .input .now)))) (c .before .before .read-whole-bytes .result) (c .before .before .read-whole-bytes .ensures) h
 
 returns : tie.Need-returns
 returns c =
@@ -51,7 +51,7 @@ returns-3 c =
     let d = c .before .before in
     let s = bitsOf (d .before .before .before .before .args .input .now) in
     let x = d .before .before .read-whole-bytes .result in
-    rw (d .empty .ensures) (data-no s (x .why) (found-no (mapped shownIn (read «ST2094-10_data» 0 s)) x (d .before .before .read-whole-bytes .ensures) (c .before .if1 .left)))
+    rw (d .empty .ensures) (data-no s (x .why) (found-no (mapped summaryIn (read «ST2094-10_data» 0 s)) x (d .before .before .read-whole-bytes .ensures) (c .before .if1 .left)))
 
 pub read-data-spec : {M : Type 1} → statement M
 read-data-spec =

@@ -8,7 +8,7 @@ use Rattle.tree.specs.Syntax.{read}
 use Rattle.syntax.specs.Data.{Head, announced}
 use Rattle.head.specs.Opening.{opening}
 use Rattle.head.proofs.Laws.{opening-ok, opening-no, opening-few}
-use Rattle.reader.specs.Reading.{shown, foundOf}
+use Rattle.reader.specs.Reading.{summary, foundOf}
 use Rattle.reader.proofs.Laws.{found-ok, found-no, blocksFrom, blocks-few, both-refused, both-later, both-ok}
 use borrow.Author.Needs.{needs}
 use Rattle.reader.proofs.read_head_and_blocks.Statement.{statement}
@@ -47,7 +47,7 @@ add-accepted c =
     let n = d .before .refresh .given .0 .1 .1 .0 in
     let x = c .before .before .before .read-blocks .result in
     let e = found-ok (blocksFrom (head d) n (drop n s)) x (c .before .before .before .read-blocks .ensures) (c .before .before .if1 .taken) in
-    omega (arith, opening-few s (head d) n (first d), blocks-few (drop n s) (head d) n (shown (x .«record») (x .skipped)) (x .width) e)
+    omega (arith, opening-few s (head d) n (first d), blocks-few (drop n s) (head d) n (summary (x .«record») (x .skipped)) (x .width) e)
 
 accepted-requires : tie.Need-accepted-requires
 accepted-requires c κs = search needs
@@ -65,7 +65,7 @@ returns-2 c =
     let n = d .before .refresh .given .0 .1 .1 .0 in
     let x = c .before .before .before .before .read-blocks .result in
     let e = found-ok (blocksFrom (head d) n (drop n s)) x (c .before .before .before .before .read-blocks .ensures) (c .before .before .before .if1 .taken) in
-    c .accepted .ensures ∙ sym (ap foundOf (both-ok s (head d) n (first d) (shown (x .«record») (x .skipped)) (x .width) e))
+    c .accepted .ensures ∙ sym (ap foundOf (both-ok s (head d) n (first d) (summary (x .«record») (x .skipped)) (x .width) e))
 
 returns-3 : tie.Need-returns-3
 returns-3 c =

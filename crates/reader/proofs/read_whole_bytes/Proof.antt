@@ -7,7 +7,7 @@ use Rattle.tree.specs.Bits.{bitsOf}
 use Rattle.tree.specs.Reading.{ok, toBoundary}
 use Rattle.tree.specs.Syntax.{read, zeroBits}
 use Rattle.bits.specs.Answer.{nameless, spanOf}
-use Rattle.reader.specs.Reading.{shown, foundOf, headAndBlocks}
+use Rattle.reader.specs.Reading.{summary, foundOf, headAndBlocks}
 use Rattle.reader.proofs.Laws.{found-ok, found-no, both-few, data-refused, data-later, end-took, data-ok}
 use borrow.Author.Needs.{needs}
 use Rattle.reader.proofs.read_whole_bytes.Statement.{statement}
@@ -32,7 +32,7 @@ enum-known-width : tie.Need-enum-known-width
 enum-known-width c = search needs
 
 -- the record and the bits before the zero bits
-first : (c : tie.After-zeros-behind) → read headAndBlocks 0 (bitsOf (c .before .before .before .before .before .args .s .now)) ≡ ok (shown (c .before .before .before .read-head-and-blocks .result .«record») (c .before .before .before .read-head-and-blocks .result .skipped)) (c .before .before .before .read-head-and-blocks .result .width)
+first : (c : tie.After-zeros-behind) → read headAndBlocks 0 (bitsOf (c .before .before .before .before .before .args .s .now)) ≡ ok (summary (c .before .before .before .read-head-and-blocks .result .«record») (c .before .before .before .read-head-and-blocks .result .skipped)) (c .before .before .before .read-head-and-blocks .result .width)
 first c = found-ok (read headAndBlocks 0 (bitsOf (c .before .before .before .before .before .args .s .now))) (c .before .before .before .read-head-and-blocks .result) (c .before .before .before .read-head-and-blocks .ensures) (c .before .before .if1 .taken)
 
 -- as many zero bits as lead to the boundary
@@ -48,7 +48,7 @@ add-accepted c =
     let s = bitsOf (d .before .before .before .before .before .args .s .now) in
     let x = d .before .before .before .read-head-and-blocks .result in
     let g = c .before .width .given in
-    omega (arith, both-few s (shown (x .«record») (x .skipped)) (x .width) (first d), end-took s (shown (x .«record») (x .skipped)) (x .width) (first d) (g .0 .0) (g .0 .1 .0) (sym (g .1) ∙ c .before .before .before .read-zeros .ensures ∙ gap d))
+    omega (arith, both-few s (summary (x .«record») (x .skipped)) (x .width) (first d), end-took s (summary (x .«record») (x .skipped)) (x .width) (first d) (g .0 .0) (g .0 .1 .0) (sym (g .1) ∙ c .before .before .before .read-zeros .ensures ∙ gap d))
 
 accepted-requires : tie.Need-accepted-requires
 accepted-requires c κs = search needs
@@ -58,7 +58,7 @@ returns c =
     let d = c .before .before .before .before .before in
     let s = bitsOf (d .before .before .before .before .before .args .s .now) in
     let x = d .before .before .before .read-head-and-blocks .result in
-    c .refused .ensures ∙ data-later s (shown (x .«record») (x .skipped)) (x .width) (first d) (c .before .before .why .given .0 .0) (sym (c .before .before .why .given .1) ∙ c .before .before .before .before .read-zeros .ensures ∙ gap d)
+    c .refused .ensures ∙ data-later s (summary (x .«record») (x .skipped)) (x .width) (first d) (c .before .before .why .given .0 .0) (sym (c .before .before .why .given .1) ∙ c .before .before .before .before .read-zeros .ensures ∙ gap d)
 
 returns-2 : tie.Need-returns-2
 returns-2 c =
@@ -66,7 +66,7 @@ returns-2 c =
     let s = bitsOf (d .before .before .before .before .before .args .s .now) in
     let x = d .before .before .before .read-head-and-blocks .result in
     let g = c .before .before .width .given in
-    c .accepted .ensures ∙ sym (ap foundOf (data-ok s (shown (x .«record») (x .skipped)) (x .width) (first d) (g .0 .0) (g .0 .1 .0) (sym (g .1) ∙ c .before .before .before .before .read-zeros .ensures ∙ gap d)))
+    c .accepted .ensures ∙ sym (ap foundOf (data-ok s (summary (x .«record») (x .skipped)) (x .width) (first d) (g .0 .0) (g .0 .1 .0) (sym (g .1) ∙ c .before .before .before .before .read-zeros .ensures ∙ gap d)))
 
 returns-3 : tie.Need-returns-3
 returns-3 c =
