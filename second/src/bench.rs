@@ -1,9 +1,9 @@
 //! One operation many times, for an instruction counter, and the stack that
 //! one call uses.
 //!
-//! Both implementations are called through the same interface with the same
+//! All implementations are called through the same interface with the same
 //! prepared arguments, so flat records and flat tables are made and taken apart
-//! on both sides.
+//! on every side.
 
 use crate::compare::Track;
 use crate::made::Rng;
@@ -14,6 +14,7 @@ use crate::record::{block_to_flat, flat, Block, Record, BARE_BYTES, EMPTY, FLAT,
 use crate::track::{Point, FLAT_TABLE, POINTS};
 use crate::unit::UNIT_LIMIT;
 use crate::units::{message, ours, plan, UNIT_BYTES};
+use std::io::Write as _;
 use std::mem::MaybeUninit;
 
 /// The operations of `bench`.
@@ -51,7 +52,16 @@ pub const STACK_OPERATIONS: [&str; 11] = [
     "writeunit",
 ];
 
-// The functions of both implementations.
+/// Whose functions are called.
+#[derive(Clone, Copy, PartialEq, Eq)]
+pub enum Implementation {
+    Own,
+    Proved,
+    /// The readers for speed; it has no other functions.
+    Rival,
+}
+
+// The functions of the implementations.
 type Read = fn(&[u8], &mut [i32], &mut [u32]) -> u32;
 type Write = fn(&[i32], &mut [u8], &mut u32) -> u32;
 type Shader = fn(&[i32], &mut [u32]) -> u32;
@@ -244,17 +254,38 @@ fn mix(sum: u64, number: u64) -> u64 {
     (sum ^ number).wrapping_mul(0x0000_0100_0000_01B3)
 }
 
+/// Prints a checksum at the same cost whatever it is: what one call costs is the
+/// difference of two runs, whose checksums differ.
+pub fn print(sum: u64) {
+    let mut line = *b"0123456789ABCDEF\n";
+    for (i, place) in line[..16].iter_mut().enumerate() {
+        let digit = (sum >> (60 - 4 * i)) as u8 & 15;
+        *place = digit + b'0' + 7 * (digit / 10);
+    }
+    std::io::stdout().write_all(&line).unwrap();
+}
+
+fn reader_of(whose: Implementation) -> Read {
+    match whose {
+        Implementation::Own => own::read_bare,
+        Implementation::Proved => proved::read_bare,
+        Implementation::Rival => own::rival_read_bare,
+    }
+}
+
 /// Runs the operation n times and gives a checksum, which depends on every
 /// call.
-pub fn bench(operation: &str, own_one: bool, n: u64) -> Option<u64> {
+pub fn bench(operation: &str, whose: Implementation, n: u64) -> Option<u64> {
     let mut sum = 0;
+    let reads = operation.starts_with("read") || operation.starts_with("skip");
+    if whose == Implementation::Rival && !reads {
+        return None;
+    }
+    let own_one = whose == Implementation::Own;
     match operation {
-        "read8" | "read44" | "read224" | "skip0" | "skip511" | "skip1022" | "skip1023" | "skiptwo" => {
-            let read: Read = hidden(if own_one {
-                own::read_bare
-            } else {
-                proved::read_bare
-            });
+        "read8" | "read44" | "read224" | "skip0" | "skip511" | "skip1022" | "skip1023"
+        | "skiptwo" => {
+            let read = hidden(reader_of(whose));
             let payload = match operation {
                 "read8" | "read44" | "read224" => payload(bytes_of(operation)).0,
                 "skiptwo" => reserved(2, 1023),
@@ -426,19 +457,18 @@ pub fn sizes() -> String {
 }
 
 /// The bytes of stack that one call uses.
-pub fn stack(operation: &str, own_one: bool) -> Option<usize> {
+pub fn stack(operation: &str, whose: Implementation) -> Option<usize> {
+    if whose == Implementation::Rival && operation != "read8" && operation != "read224" {
+        return None;
+    }
+    let own_one = whose == Implementation::Own;
     let mut number = 0;
     let bytes = match operation {
         "read8" | "read224" => {
             let (payload, _) = payload(bytes_of(operation));
             let mut record = [0; FLAT];
-            let function: Read = if own_one {
-                own::read_bare
-            } else {
-                proved::read_bare
-            };
             used(
-                function,
+                reader_of(whose),
                 |_, _, _| 0,
                 |read| number |= read(&payload, &mut record, &mut [0; READING]),
             )

@@ -1,7 +1,7 @@
-//! Calls both implementations with the same arguments and compares everything:
-//! the result number, every element of every lent array, the elements around
-//! it, and the arguments that are only read. The first difference ends the
-//! program.
+//! Calls both implementations, and for a reading the reader for speed too, with
+//! the same arguments and compares everything: the result number, every element
+//! of every lent array, the elements around it, and the arguments that are only
+//! read. The first difference ends the program.
 //!
 //! Every array that is lent to be written is filled with a pattern first, and
 //! lies between elements that are not lent; so does every single number. Both
@@ -175,8 +175,10 @@ pub struct Compare {
     pattern: u32,
     own_record: [i32; RECORD_ROOM],
     proved_record: [i32; RECORD_ROOM],
+    rival_record: [i32; RECORD_ROOM],
     own_reading: [u32; READING_ROOM],
     proved_reading: [u32; READING_ROOM],
+    rival_reading: [u32; READING_ROOM],
     own_output: [u8; OUTPUT_ROOM],
     proved_output: [u8; OUTPUT_ROOM],
     own_single: [u32; SINGLE_ROOM],
@@ -303,8 +305,10 @@ impl Compare {
             pattern: 1,
             own_record: [0; RECORD_ROOM],
             proved_record: [0; RECORD_ROOM],
+            rival_record: [0; RECORD_ROOM],
             own_reading: [0; READING_ROOM],
             proved_reading: [0; READING_ROOM],
+            rival_reading: [0; READING_ROOM],
             own_output: [0; OUTPUT_ROOM],
             proved_output: [0; OUTPUT_ROOM],
             own_single: [0; SINGLE_ROOM],
@@ -355,6 +359,7 @@ impl Compare {
             *number = value as i32;
         }
         self.proved_record = self.own_record;
+        self.rival_record = self.own_record;
     }
 
     fn fill_readings(&mut self) {
@@ -364,6 +369,7 @@ impl Compare {
             *number = value;
         }
         self.proved_reading = self.own_reading;
+        self.rival_reading = self.own_reading;
     }
 
     fn fill_outputs(&mut self, n: usize) {
@@ -511,6 +517,8 @@ impl Compare {
                 proved::read_bare(&self.lent_bytes, proved_record, proved_facts),
             ),
         };
+        // The reader for speed is held to the plain one.
+        let rival_number = self.read_by_rival(function, input, record_len, reading_len);
         // What the facts of a refused reading must be, without asking either
         // implementation: zeros, or all as it was where they have not their length.
         let mut facts_after = facts_before;
@@ -520,6 +528,9 @@ impl Compare {
         if own_number != proved_number
             || self.own_record != self.proved_record
             || self.own_reading != self.proved_reading
+            || own_number != rival_number
+            || self.own_record != self.rival_record
+            || self.own_reading != self.rival_reading
             || (own_number != 0 && self.proved_reading != facts_after)
             || self.own_single != self.proved_single
             || self.lent_bytes != input
@@ -534,12 +545,42 @@ impl Compare {
                     reading_len
                 ),
                 &(self.answers(own_number, proved_number)
+                    + &format!("  rival: result {}\n", rival_number)
+                    + &first_difference(
+                        "record, with the rival's for the proved",
+                        AROUND,
+                        &self.own_record,
+                        &self.rival_record,
+                    )
+                    + &first_difference(
+                        "facts, with the rival's for the proved",
+                        AROUND,
+                        &self.own_reading,
+                        &self.rival_reading,
+                    )
                     + &self.facts(own_number, proved_number, &facts_after)
                     + &changed("the input", input, &self.lent_bytes)),
             );
         }
         self.count(function, own_number);
         own_number
+    }
+
+    /// The same reading by the reader for speed.
+    fn read_by_rival(
+        &mut self,
+        function: Function,
+        input: &[u8],
+        record_len: usize,
+        reading_len: usize,
+    ) -> u32 {
+        let record = &mut self.rival_record[AROUND..AROUND + record_len];
+        let facts = &mut self.rival_reading[AROUND..AROUND + reading_len];
+        match function {
+            Function::ReadWrapped => own::rival_read_wrapped(input, record, facts),
+            Function::ReadUnit => own::rival_read_unit(input, record, facts),
+            _ => own::rival_read_bare(input, record, facts),
+        }
     }
 
     /// What the facts of a reading hold, for a failure's report.

@@ -17,6 +17,7 @@ mod proved;
 mod reader;
 mod record;
 mod reserved;
+mod rival;
 mod runs;
 mod shader;
 mod track;
@@ -24,6 +25,7 @@ mod unit;
 mod units;
 mod writer;
 
+use bench::Implementation;
 use compare::Compare;
 use std::os::raw::{c_char, c_int};
 
@@ -37,17 +39,18 @@ fn usage() -> c_int {
     eprintln!("       second many       compares, {} rounds", MANY);
     eprintln!("       second bench OP IMPL N");
     eprintln!("         OP   {}", bench::OPERATIONS.join(", "));
-    eprintln!("         IMPL own, proved");
+    eprintln!("         IMPL own, proved, and for read and skip: rival");
     eprintln!("       second stack OP IMPL");
     eprintln!("         OP   {}", bench::STACK_OPERATIONS.join(", "));
     eprintln!("       second sizes");
     2
 }
 
-fn is_own(implementation: &str) -> Option<bool> {
-    match implementation {
-        "own" => Some(true),
-        "proved" => Some(false),
+fn implementation(name: &str) -> Option<Implementation> {
+    match name {
+        "own" => Some(Implementation::Own),
+        "proved" => Some(Implementation::Proved),
+        "rival" => Some(Implementation::Rival),
         _ => None,
     }
 }
@@ -59,18 +62,18 @@ pub extern "C" fn main(_argc: c_int, _argv: *const *const c_char) -> c_int {
     match words[..] {
         [] => compare_all(1),
         ["many"] => compare_all(MANY),
-        ["bench", operation, implementation, n] => match (is_own(implementation), n.parse()) {
-            (Some(own_one), Ok(n)) => match bench::bench(operation, own_one, n) {
+        ["bench", operation, name, n] => match (implementation(name), n.parse()) {
+            (Some(whose), Ok(n)) => match bench::bench(operation, whose, n) {
                 Some(sum) => {
-                    println!("{:016X}", sum);
+                    bench::print(sum);
                     0
                 }
                 None => usage(),
             },
             _ => usage(),
         },
-        ["stack", operation, implementation] => match is_own(implementation) {
-            Some(own_one) => match bench::stack(operation, own_one) {
+        ["stack", operation, name] => match implementation(name) {
+            Some(whose) => match bench::stack(operation, whose) {
                 Some(bytes) => {
                     println!("{}", bytes);
                     0

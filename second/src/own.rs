@@ -12,6 +12,7 @@
 
 use crate::reader::{self, Reading};
 use crate::record::{block_from_flat, from_flat, to_flat, FLAT, FLAT_BLOCK};
+use crate::rival;
 use crate::shader;
 use crate::track::{self, point_from_flat, table_to_flat, Point};
 use crate::track::{CLEARED, FLAT_POINT, FLAT_TABLE, POINTS};
@@ -64,6 +65,23 @@ pub fn read_wrapped(input: &[u8], record: &mut [i32], facts: &mut [u32]) -> u32 
 #[inline(never)]
 pub fn read_unit(input: &[u8], record: &mut [i32], facts: &mut [u32]) -> u32 {
     give_read(unit::read_unit, input, record, facts)
+}
+
+/// The readers for speed, behind the same interface.
+#[inline(never)]
+pub fn rival_read_bare(input: &[u8], record: &mut [i32], facts: &mut [u32]) -> u32 {
+    give_read(rival::read_bare, input, record, facts)
+}
+
+#[inline(never)]
+pub fn rival_read_wrapped(input: &[u8], record: &mut [i32], facts: &mut [u32]) -> u32 {
+    give_read(rival::read_wrapped, input, record, facts)
+}
+
+/// A unit, whose message of ours the reader for speed reads.
+pub fn rival_read_unit(input: &[u8], record: &mut [i32], facts: &mut [u32]) -> u32 {
+    let read = |unit: &[u8]| unit::read_unit_by(rival::read_wrapped, unit);
+    give_read(read, input, record, facts)
 }
 
 fn give_number(answer: Result<usize, u32>, number: &mut u32) -> u32 {

@@ -124,12 +124,20 @@ fn messages(bytes: &[u8]) -> Result<Vec<Message>, u32> {
 /// to the existing reader, whose answer stands; the others are passed over."
 /// 33: "none of our messages".
 pub fn read_unit(unit: &[u8]) -> Result<Reading, u32> {
+    read_unit_by(read_wrapped, unit)
+}
+
+/// The same, with any reader for the message.
+pub fn read_unit_by(
+    read: impl Fn(&[u8]) -> Result<Reading, u32>,
+    unit: &[u8],
+) -> Result<Reading, u32> {
     check_header(unit)?;
     check_emulation(unit)?;
     let bytes = without_emulation(&unit[HEADER.len()..]);
     for message in messages(&bytes)? {
         if message.payload_type == T35 && message.content.starts_with(&WRAPPER) {
-            return read_wrapped(message.content);
+            return read(message.content);
         }
     }
     Err(33)

@@ -1,4 +1,5 @@
 pub mod Casts
 pub mod Signed
 pub mod Reading
+mod Zeros
 pub mod OneAnswer

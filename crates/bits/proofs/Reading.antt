@@ -1,27 +1,30 @@
 -- Laws by which the functions that read meet their definitions.
 use Prim.Native.Nat.{ℕ, zero, suc, _+_, _-_, _*_, _/_, _%_, _^_, _<_, _≤_}
 use mathlib.Core.Path.{_≡_, refl, ap, sym, _∙_}
-use mathlib.Core.List.{List, [], _∷_}
+use mathlib.Core.List.{List, [], _∷_, _++_}
 use mathlib.Core.Bool.{Bool, true, false}
 use native.Mathlib.Omega.{arith}
-use lib.ListN.{length, getD, take, drop, drop-of-length-le}
-use lib.Dec.{ltb}
-use lib.Seq.{drop-cons, drop-drop, getD-drop}
-use borrow.Author.Tests.{le-ltb, ltb-true}
+use native.Mathlib.Nat.{add-zero, div-one, zero-div}
+use native.Mathlib.Numerals.{add-one}
+use lib.ListN.{length, getD, take, drop, replicate, length-take, length-drop, take-append-drop, drop-of-length-le}
+use lib.Pow.{pow-pos}
+use lib.Seq.{drop-drop}
+use borrow.Author.Tests.{le-ltb}
 use Rattle.refusals.specs.Refusals.{refusal, notZero}
 use Rattle.refusals.specs.declared.Refusal.{Refusal}
-use Rattle.tree.specs.Bits.{bitsOf, bit, value}
-use Rattle.tree.specs.Reading.{Fault, numberIn, Out, ok, no, widened, mapped, cutOff, overlong, breaks, u, zerosThenOne, ue}
+use Rattle.tree.specs.Bits.{code, bitsOf, value, valueFrom}
+use Rattle.tree.specs.Reading.{Fault, numberIn, Out, ok, no, widened, cutOff, overlong, breaks, u, zerosThenOne, ue}
 use Rattle.tree.specs.Syntax.{read, zeroBits}
 use Rattle.tree.specs.Renamed.{renamed, renamedFault}
-use Rattle.tree.proofs.Bits.{bit-of, bit-odd, length-bits, value-more}
-use Rattle.tree.proofs.Codes.{no-not-ok}
-use Rattle.tree.proofs.Elements.{u-took, zero-more}
+use Rattle.tree.proofs.Bits.{length-bits, code-value, code-zero}
+use Rattle.tree.proofs.Elements.{u-ok, u-short, zerosOne, length-zeros-one, codes-zeros-one, zero-more}
 use Rattle.tree.proofs.Renamed.{renamed-u, renamed-ue}
 use Rattle.tree.proofs.Steps as steps
+use Rattle.window.specs.Bytes.{bytesNumber}
+use Rattle.window.proofs.Laws.{joined, front, number-one, byte-is-bits, bits-in-bytes}
 use Rattle.bits.specs.declared.Number.{Number}
 use Rattle.bits.specs.declared.Number.the-variants.{Is, Refused}
-use Rattle.bits.specs.Answer.{nameless, numberOf, spanOf, Own, ueNumber}
+use Rattle.bits.specs.Answer.{nameless, numberOf, spanOf}
 
 -- what an answer says of the reading that it is of
 pub is-ok : {N : Type 0} (o : Out N ℕ) (v n : ℕ) → Is v n ≡ numberOf o → o ≡ ok v n
@@ -80,80 +83,94 @@ named-zeros name (suc n) at (false ∷ s) =
     ap spanOf (steps.zeros-zero nameless n at s) ∙ span-widened 1 (read (zeroBits nameless n) (at + 1) s) ∙ ap (further 1) (named-zeros name n (at + 1) s)
     ∙ sym (ap spanOf (steps.zeros-zero name n at s) ∙ span-widened 1 (read (zeroBits name n) (at + 1) s))
 
--- the bit that lies k bits behind a position, by its byte
-pub bit-behind : (s : List ℕ) (at k : ℕ) → at + k < 8 * length s
-    → bit (getD (bitsOf s) (at + k) false) ≡ getD s (at / 8 + (at % 8 + k) / 8) 0 / 2 ^ (7 - (at % 8 + k) % 8) % 2
-bit-behind s at k h =
-    let q : (at + k) / 8 ≡ at / 8 + (at % 8 + k) / 8 = omega arith in
-    let r : (at + k) % 8 ≡ (at % 8 + k) % 8 = omega arith in
-    ap bit (bit-of s (at + k) h) ∙ rw (q, r) (bit-odd (getD s (at / 8 + (at % 8 + k) / 8) 0 / 2 ^ (7 - (at % 8 + k) % 8)))
+-- ---- bits by the bytes that they lie in
 
--- one bit more of a field, read at its position
-pub value-bit : (l : List Bool) (at k : ℕ) → k < length (drop at l) → value (take (k + 1) (drop at l)) ≡ value (take k (drop at l)) * 2 + bit (getD l (at + k) false)
-value-bit l at k h = rw (← getD-drop at l k false) (value-more (drop at l) k h)
+module _ (s : List ℕ) (bytes : (i : ℕ) → getD s i 0 < 256) (at : ℕ) where
+  -- what is left of a byte from a position on: its head is cut off
+  pub rest-of-byte : at / 8 < length s → (power : ℕ) → power ≡ 2 ^ (8 - at % 8) → getD s (at / 8) 0 % power ≡ value (take (8 - at % 8) (drop at (bitsOf s)))
+  rest-of-byte h power p =
+      let e : 8 * 1 - (at % 8 + (8 - at % 8)) ≡ 0 = omega arith in
+      rw p (ap (λ (v : ℕ). v % 2 ^ (8 - at % 8)) (number-one s (at / 8) ∙ sym (div-one (bytesNumber s (at / 8) 1)) ∙ ap (λ (k : ℕ). bytesNumber s (at / 8) 1 / 2 ^ k) (sym e)))
+      ∙ bits-in-bytes s bytes at (8 - at % 8) 1 (omega arith) (omega arith)
 
--- a bit that is one, and one that is not
-bit-one : (b : Bool) → bit b ≡ 1 → b ≡ true
-bit-one true e = refl
-bit-one false e = absurd (omega arith)
+  -- n bits that end before byte i, and that byte
+  pub byte-more : (n i : ℕ) → at + n ≡ 8 * i → i < length s → value (take n (drop at (bitsOf s))) * 256 + getD s i 0 ≡ value (take (n + 8) (drop at (bitsOf s)))
+  byte-more n i e h =
+      let l : n + 8 ≤ length (drop at (bitsOf s)) = omega (arith, length-drop at (bitsOf s), length-bits s) in
+      let d : value (take 8 (drop n (drop at (bitsOf s)))) ≡ getD s i 0 = ap (λ (t : List Bool). value (take 8 t)) (drop-drop n at (bitsOf s) ∙ ap (λ (p : ℕ). drop p (bitsOf s)) e) ∙ byte-is-bits s bytes i h in
+      sym (joined (drop at (bitsOf s)) n 8 l ∙ rw d refl)
 
-bit-zero : (b : Bool) → (bit b ≡ 1 → ⊥) → b ≡ false
-bit-zero true e = absurd (e refl)
-bit-zero false e = refl
+-- ---- zeros, and the first one behind them, by the number that bits are
 
--- the bits from a position on: none, a one first, a zero first
-module _ (s : List ℕ) (p : ℕ) where
-  pub rest-end : 8 * length s ≤ p → drop p (bitsOf s) ≡ []
-  rest-end h =
-      let l : length (bitsOf s) ≤ p = omega (arith, length-bits s) in
-      drop-of-length-le (bitsOf s) l
+module _ (l : List Bool) where
+  -- bits that are 0 are zeros
+  pub all-zeros : (m : ℕ) → m ≤ length l → value (take m l) ≡ 0 → l ≡ replicate m false ++ drop m l
+  all-zeros m h e =
+      let c = code-value m (take m l) (omega (arith, length-take m l)) in
+      sym (ap (λ (t : List Bool). t ++ drop m l) (sym (code-zero m) ∙ ap (code m) (sym e) ∙ c) ∙ take-append-drop m l)
 
-  pub rest-one : p < 8 * length s → bit (getD (bitsOf s) p false) ≡ 1 → drop p (bitsOf s) ≡ true ∷ drop (suc p) (bitsOf s)
-  rest-one h e =
-      let l : p < length (bitsOf s) = omega (arith, length-bits s) in
-      rw (drop-cons (bitsOf s) p false l, bit-one (getD (bitsOf s) p false) e)
+  -- bits that are 1 are zeros and a one
+  zeros-and-one : (k : ℕ) → k + 1 ≤ length l → value (take (k + 1) l) ≡ 1 → l ≡ zerosOne k ++ drop (k + 1) l
+  unfolding code
+  zeros-and-one k h e =
+      let c = code-value (k + 1) (take (k + 1) l) (omega (arith, length-take (k + 1) l)) in
+      let o : code (k + 1) 1 ≡ zerosOne k = rw (add-one k, code-zero k) in
+      sym (ap (λ (t : List Bool). t ++ drop (k + 1) l) (sym o ∙ ap (code (k + 1)) (sym e) ∙ c) ∙ take-append-drop (k + 1) l)
 
-  pub rest-zero : p < 8 * length s → (bit (getD (bitsOf s) p false) ≡ 1 → ⊥) → drop p (bitsOf s) ≡ false ∷ drop (suc p) (bitsOf s)
-  rest-zero h e =
-      let l : p < length (bitsOf s) = omega (arith, length-bits s) in
-      rw (drop-cons (bitsOf s) p false l, bit-zero (getD (bitsOf s) p false) e)
+-- ---- ue(v)
 
--- the walk over the zeros of a ue(v) code, a bit at a time
-module _ (s : List ℕ) (at most k : ℕ) where
-  pub ones-end : 8 * length s ≤ at + k → zerosThenOne nameless most at k (drop (at + k) (bitsOf s)) ≡ no (cutOff at nameless)
+-- zeros that are past
+zeros-past : (most at m j : ℕ) (t : List Bool) → j + m ≤ most → zerosThenOne nameless most at j (replicate m false ++ t) ≡ zerosThenOne nameless most at (j + m) t
+zeros-past most at zero j t h = rw (add-zero j)
+zeros-past most at (suc m) j t h =
+    let e : j + 1 + m ≡ j + suc m = omega arith in
+    zero-more nameless most at j (replicate m false ++ t) (omega arith) ∙ (rw e at (zeros-past most at m (j + 1) t (omega arith)))
+
+zeros-too-many : (most at m j : ℕ) (t : List Bool) → j + m ≡ most → zerosThenOne nameless most at j (replicate (suc m) false ++ t) ≡ no (overlong at nameless)
+unfolding zerosThenOne
+zeros-too-many most at zero j t h = rw (le-ltb j most (omega arith))
+zeros-too-many most at (suc m) j t h =
+    zero-more nameless most at j (replicate (suc m) false ++ t) (omega arith) ∙ zeros-too-many most at m (j + 1) t (omega arith)
+
+module _ (most at : ℕ) (l : List Bool) where
+  ue-of : (g : Fault (Unit {0})) → zerosThenOne nameless most at 0 l ≡ no g → ue nameless most at l ≡ no g
+  unfolding ue
+  ue-of g e = rw e refl
+
+  -- the input ends among the zeros
+  pub ue-end : (n : ℕ) → length l ≡ n → n ≤ most → value (take n l) ≡ 0 → ue nameless most at l ≡ no (cutOff at nameless)
   unfolding zerosThenOne
-  ones-end h = rw (rest-end s (at + k) h)
+  ue-end n f h e =
+      let d : drop n l ≡ [] = drop-of-length-le l {i = n} (omega arith) in
+      let z : l ≡ replicate n false ++ [] = all-zeros l n (omega arith) e ∙ ap (λ (t : List Bool). replicate n false ++ t) d in
+      ue-of (cutOff at nameless) (ap (zerosThenOne nameless most at 0) z ∙ zeros-past most at n 0 [] (omega arith))
 
-  pub ones-one : at + k < 8 * length s → bit (getD (bitsOf s) (at + k) false) ≡ 1 → zerosThenOne nameless most at k (drop (at + k) (bitsOf s)) ≡ ok k (k + 1)
-  unfolding zerosThenOne
-  ones-one h e = rw (rest-one s (at + k) h e)
+  -- one zero too many
+  pub ue-overlong : (m : ℕ) → most < m → m ≤ length l → value (take m l) ≡ 0 → ue nameless most at l ≡ no (overlong at nameless)
+  ue-overlong m k h e =
+      let f : value (take (suc most) l) ≡ 0 = sym (front l m (suc most) (omega arith) h) ∙ rw e (zero-div (2 ^ (m - suc most))) in
+      ue-of (overlong at nameless) (ap (zerosThenOne nameless most at 0) (all-zeros l (suc most) (omega arith) f) ∙ zeros-too-many most at most 0 (drop (suc most) l) (omega arith))
 
-  pub ones-zero : at + k < 8 * length s → (bit (getD (bitsOf s) (at + k) false) ≡ 1 → ⊥) → k < most
-      → zerosThenOne nameless most at k (drop (at + k) (bitsOf s)) ≡ zerosThenOne nameless most at (k + 1) (drop (at + (k + 1)) (bitsOf s))
-  ones-zero h e m =
-      let d : suc (at + k) ≡ at + (k + 1) = omega arith in
-      ap (zerosThenOne nameless most at k) (rest-zero s (at + k) h e) ∙ zero-more nameless most at k (drop (suc (at + k)) (bitsOf s)) m
-      ∙ ap (λ (p : ℕ). zerosThenOne nameless most at (k + 1) (drop p (bitsOf s))) d
+  -- k zeros and the one
+  module _ (k : ℕ) (few : k ≤ most) (there : k + 1 ≤ length l) (one : value (take (k + 1) l) ≡ 1) where
+    zeros-read : zerosThenOne nameless most at 0 l ≡ ok k (k + 1)
+    zeros-read =
+        ap (zerosThenOne nameless most at 0) (zeros-and-one l k there one) ∙ codes-zeros-one nameless at most .takes k few (drop (k + 1) l)
+        ∙ ap (ok k) (length-zeros-one k)
 
-  pub ones-gone : at + k < 8 * length s → (bit (getD (bitsOf s) (at + k) false) ≡ 1 → ⊥) → most ≤ k
-      → zerosThenOne nameless most at k (drop (at + k) (bitsOf s)) ≡ no (overlong at nameless)
-  unfolding zerosThenOne
-  ones-gone h e m = rw (rest-zero s (at + k) h e, le-ltb k most m)
+    -- the input ends among the bits behind them
+    pub ue-cut : length l < 2 * k + 1 → ue nameless most at l ≡ no (cutOff at nameless)
+    unfolding ue
+    ue-cut h = rw (zeros-read, u-short nameless k at (drop (k + 1) l) (omega (arith, length-drop (k + 1) l))) refl
 
--- the walk over n zero bits: m are left, k are past
-module _ (s : List ℕ) (at k m : ℕ) where
-  pub zeros-end : 8 * length s ≤ at + k → read (zeroBits nameless (suc m)) (at + k) (drop (at + k) (bitsOf s)) ≡ no (cutOff (at + k) nameless)
-  zeros-end h = ap (read (zeroBits nameless (suc m)) (at + k)) (rest-end s (at + k) h) ∙ steps.zeros-end nameless m (at + k)
-
-  pub zeros-one : at + k < 8 * length s → bit (getD (bitsOf s) (at + k) false) ≡ 1 → (f : Fault (Unit {0})) × (read (zeroBits nameless (suc m)) (at + k) (drop (at + k) (bitsOf s)) ≡ no f) × (numberIn f ≡ notZero)
-  zeros-one h e = (_, ap (read (zeroBits nameless (suc m)) (at + k)) (rest-one s (at + k) h e) ∙ steps.zeros-one nameless m (at + k) (drop (suc (at + k)) (bitsOf s)), refl)
-
-  pub zeros-zero : at + k < 8 * length s → (bit (getD (bitsOf s) (at + k) false) ≡ 1 → ⊥)
-      → read (zeroBits nameless (suc m)) (at + k) (drop (at + k) (bitsOf s)) ≡ widened 1 (read (zeroBits nameless m) (at + (k + 1)) (drop (at + (k + 1)) (bitsOf s)))
-  zeros-zero h e =
-      let d : suc (at + k) ≡ at + (k + 1) = omega arith in
-      let p : at + k + 1 ≡ at + (k + 1) = omega arith in
-      ap (read (zeroBits nameless (suc m)) (at + k)) (rest-zero s (at + k) h e) ∙ steps.zeros-zero nameless m (at + k) (drop (suc (at + k)) (bitsOf s)) ∙ rw (d, p) refl
+    -- the code is complete: its number is one less than what all of its bits are
+    pub ue-is : 2 * k + 1 ≤ length l → ue nameless most at l ≡ ok (value (take (2 * k + 1) l) - 1) (2 * k + 1)
+    unfolding ue
+    ue-is h =
+        let w : k + 1 + k ≡ 2 * k + 1 = omega arith in
+        let j = joined l (k + 1) k (omega arith) in
+        let n : 2 ^ k - 1 + value (take k (drop (k + 1) l)) ≡ value (take (2 * k + 1) l) - 1 = omega (arith, rw (w, one) at j, pow-pos k) in
+        rw (zeros-read, u-ok nameless k at (drop (k + 1) l) (omega (arith, length-drop (k + 1) l)), w, n) refl
 
 pub widened-twice : {N A : Type 0} (m n : ℕ) (o : Out N A) → widened m (widened n o) ≡ widened (m + n) o
 widened-twice m n (ok a j) = let e : m + (n + j) ≡ m + n + j = omega arith in rw e
@@ -163,48 +180,40 @@ pub widened-none : {N A : Type 0} (o : Out N A) → widened 0 o ≡ o
 widened-none (ok a j) = let e : 0 + j ≡ j = omega arith in rw e
 widened-none (no r) = refl
 
--- a ue(v) code has at most so many zeros, and the one is behind them
-pub zeros-bound : (most at k : ℕ) (l : List Bool) (v n : ℕ) → k ≤ most → zerosThenOne nameless most at k l ≡ ok v n → (v ≤ most) × (n ≡ v + 1)
-unfolding zerosThenOne
-zeros-bound most at k [] v n h e = let z : _≡_ {A = ℕ} 0 1 = cc in absurd (omega arith)
-zeros-bound most at k (true ∷ l) v n h e =
-    let a : k ≡ v = cc in
-    let b : k + 1 ≡ n = cc in
-    (omega arith, omega arith)
-zeros-bound most at k (false ∷ l) v n h e = go (zeros-bound most at (k + 1) l v n) (ltb k most) refl
-  where
-    go : (k + 1 ≤ most → zerosThenOne nameless most at (k + 1) l ≡ ok v n → (v ≤ most) × (n ≡ v + 1)) → (b : Bool) → ltb k most ≡ b → (v ≤ most) × (n ≡ v + 1)
-    go further true q = let f = ltb-true k most q in further (omega arith) (rw q at e)
-    go further false q =
-        no-not-ok (rw q at e)
+-- ---- zero bits
 
--- ue(v) after its zeros, and after its bits
-module _ (most at : ℕ) (B : List Bool) where
-  ue-of : (g : Fault (Unit {0})) → zerosThenOne nameless most at 0 (drop at B) ≡ no g → ue nameless most at (drop at B) ≡ no g
-  unfolding ue
-  ue-of g e = rw e refl
+-- those that are past
+zero-bits-past : (m n at : ℕ) (t : List Bool) → m ≤ n → read (zeroBits nameless n) at (replicate m false ++ t) ≡ widened m (read (zeroBits nameless (n - m)) (at + m) t)
+zero-bits-past zero n at t h =
+    let e : n - 0 ≡ n = omega arith in
+    rw (e, add-zero at) (sym (widened-none (read (zeroBits nameless n) at t)))
+zero-bits-past (suc m) zero at t h = absurd (omega arith)
+zero-bits-past (suc m) (suc n) at t h =
+    let e : at + 1 + m ≡ at + suc m = omega arith in
+    let d : suc n - suc m ≡ n - m = omega arith in
+    let w : suc m ≡ 1 + m = omega arith in
+    steps.zeros-zero nameless n at (replicate m false ++ t) ∙ ap (widened 1) (zero-bits-past m n (at + 1) t (omega arith))
+    ∙ widened-twice 1 m (read (zeroBits nameless (n - m)) (at + 1 + m) t) ∙ rw (d, e, w) refl
 
-  pub ue-no : (r : Refusal) → Refused r ≡ numberOf (zerosThenOne nameless most at 0 (drop at B)) → Refused r ≡ numberOf (ue nameless most at (drop at B))
-  ue-no r e = let f = is-no (zerosThenOne nameless most at 0 (drop at B)) r e in ap (λ (q : Refusal). Refused q) (f .2) ∙ sym (ap numberOf (ue-of (f .0) (f .1)))
+module _ (n at : ℕ) (l : List Bool) where
+  -- m of them are zeros
+  pub zeros-go-on : (m : ℕ) → m ≤ n → m ≤ length l → value (take m l) ≡ 0 → read (zeroBits nameless n) at l ≡ widened m (read (zeroBits nameless (n - m)) (at + m) (drop m l))
+  zeros-go-on m h k e = ap (read (zeroBits nameless n) at) (all-zeros l m k e) ∙ zero-bits-past m n at (drop m l) h
 
-  module _ (k ahead : ℕ) (e : Is k ahead ≡ numberOf (zerosThenOne nameless most at 0 (drop at B))) where
-    first : zerosThenOne nameless most at 0 (drop at B) ≡ ok k ahead
-    first = is-ok (zerosThenOne nameless most at 0 (drop at B)) k ahead e
+  -- the input ends among them
+  pub zeros-end : (m : ℕ) → length l ≡ m → m < n → value (take m l) ≡ 0 → read (zeroBits nameless n) at l ≡ no (cutOff (at + m) nameless)
+  zeros-end m f h e =
+      let d : drop m l ≡ [] = drop-of-length-le l {i = m} (omega arith) in
+      let k : n - m ≡ suc (n - m - 1) = omega arith in
+      zeros-go-on m (omega arith) (omega arith) e ∙ rw (d, k, steps.zeros-end nameless (n - m - 1) (at + m)) refl
 
-    pub ue-ahead : (k ≤ most) × (ahead ≡ k + 1)
-    ue-ahead = zeros-bound most at 0 (drop at B) k ahead (omega arith) first
-
-    pub ue-own : k ≤ 31 → Own k (numberOf (u nameless k at (drop (at + ahead) B)))
-    ue-own h = go (u nameless k at (drop (at + ahead) B)) refl
-      where
-        go : (o : Out (Unit {0}) ℕ) → u nameless k at (drop (at + ahead) B) ≡ o → Own k (numberOf o)
-        go (ok v n) q = let t = u-took nameless k at (drop (at + ahead) B) v n q in (t .1, omega (arith, t .0))
-        go (no f) q = tt
-
-    pub ue-bits : ueNumber k ahead (numberOf (u nameless k at (drop (at + ahead) B))) ≡ numberOf (ue nameless most at (drop at B))
-    unfolding ue
-    ue-bits = rw (first, drop-drop ahead at B) (go (u nameless k at (drop (at + ahead) B)))
-      where
-        go : (o : Out (Unit {0}) ℕ) → ueNumber k ahead (numberOf o) ≡ numberOf (widened ahead (mapped (λ v. 2 ^ k - 1 + v) o))
-        go (ok v n) = refl
-        go (no f) = refl
+-- a one is among them
+pub zeros-broken : (n at m : ℕ) (l : List Bool) → m ≤ n → (value (take m l) ≡ 0 → ⊥) → (f : Fault (Unit {0})) × (read (zeroBits nameless n) at l ≡ no f) × (numberIn f ≡ notZero)
+unfolding valueFrom
+zeros-broken n at zero l h e = absurd (e refl)
+zeros-broken n at (suc m) [] h e = absurd (e refl)
+zeros-broken zero at (suc m) (b ∷ l) h e = absurd (omega arith)
+zeros-broken (suc n) at (suc m) (true ∷ l) h e = (_, steps.zeros-one nameless n at l, refl)
+zeros-broken (suc n) at (suc m) (false ∷ l) h e =
+    let f = zeros-broken n (at + 1) m l (omega arith) e in
+    (f .0, steps.zeros-zero nameless n at l ∙ ap (widened 1) (f .1), f .2)

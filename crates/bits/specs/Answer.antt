@@ -1,9 +1,15 @@
 -- What the functions that read bits answer: a value and its width, or the number of a fault, which goes by no name and no position.
-use Prim.Native.Nat.{ℕ, _+_, _-_, _^_, _<_, _≤_}
+use Prim.Native.Nat.{ℕ, _+_, _*_, _<_, _≤_}
+use mathlib.Core.Path.{_≡_}
+use mathlib.Core.List.{List}
+use lib.ListN.{length, take, drop}
 use Rattle.refusals.specs.Refusals.{refusal}
-use Rattle.tree.specs.Reading.{numberIn, Out, ok, no}
+use Rattle.tree.specs.Bits.{bitsOf, value}
+use Rattle.tree.specs.Reading.{numberIn, Out, ok, no, ue}
 use Rattle.bits.specs.declared.Number.{Number}
 use Rattle.bits.specs.declared.Number.the-variants.{Is, Refused}
+use Rattle.bits.specs.declared.Lead.{Lead}
+use Rattle.bits.specs.declared.Lead.the-variants.{Is as IsLead, Refused as RefusedLead}
 
 -- what is read has a name to those who ask for it, and none here
 abbrev pub nameless : Unit {0}
@@ -18,12 +24,21 @@ abbrev pub spanOf : {N : Type 0} → Out N (Unit {0}) → Number
 spanOf (ok z n) = Is 0 n
 spanOf (no f) = Refused (refusal (numberIn f))
 
--- a ue(v) code of k zeros by its own k bits: its number is 2^k − 1 plus those bits
-abbrev pub ueNumber : ℕ → ℕ → Number → Number
-ueNumber k ahead (Is v n) = Is (2 ^ k - 1 + v) (ahead + n)
-ueNumber k ahead (Refused r) = Refused r
+abbrev pub refusedNumber : ℕ → Number
+refusedNumber k = Refused (refusal k)
 
--- an answer of k bits
-abbrev pub Own : ℕ → Number → Type 0
-Own k (Is v n) = (v < 2 ^ k) × (n ≤ 32)
-Own k (Refused r) = Unit {0}
+-- ---- on the way to a ue(v) code
+
+abbrev pub refusedLead : ℕ → Lead
+refusedLead k = RefusedLead (refusal k)
+
+-- bits up to the byte that holds their first one, or the answer for the whole code
+abbrev pub Leads : List ℕ → ℕ → ℕ → Lead → Type 0
+Leads s at most (IsLead v n i) = (v ≡ value (take n (drop at (bitsOf s)))) × (0 < v) × (at + n ≡ 8 * i) × (i ≤ length s) × (n ≤ most + 8)
+Leads s at most (RefusedLead r) = Refused r ≡ numberOf (ue nameless most at (drop at (bitsOf s)))
+
+-- a code of so many zeros, whose first n bits are the number v and end before byte i
+abbrev pub Begun : List ℕ → ℕ → ℕ → ℕ → ℕ → ℕ → Type 0
+Begun s at v n i zeros =
+    (v ≡ value (take n (drop at (bitsOf s)))) × (at + n ≡ 8 * i) × (i ≤ length s) × (zeros < n) × (n ≤ 39) × (value (take (zeros + 1) (drop at (bitsOf s))) ≡ 1)
+    × (zeros ≤ 31)

@@ -2,13 +2,12 @@
 // answer, and nothing here knows what the bits mean.
 use refusals::Refusal;
 ghost use mathlib.Core.Path.{_≡_};
-ghost use mathlib.Core.Bool.{false};
-ghost use Prim.Native.Nat.{_+_, _*_, _<_, _≤_, _^_};
-ghost use lib.ListN.{length, getD, drop, take};
-ghost use Rattle.tree.specs.Bits.{bitsOf, bit, value};
-ghost use Rattle.tree.specs.Reading.{u, ue, zerosThenOne, signedOf};
+ghost use Prim.Native.Nat.{ℕ, _+_, _-_, _*_, _/_, _<_, _≤_, _^_};
+ghost use lib.ListN.{length, drop, take};
+ghost use Rattle.tree.specs.Bits.{bitsOf, value};
+ghost use Rattle.tree.specs.Reading.{u, ue, signedOf};
 ghost use Rattle.tree.specs.Syntax.{read, zeroBits};
-ghost use Rattle.bits.specs.Answer.{nameless, numberOf, spanOf, Own, ueNumber};
+ghost use Rattle.bits.specs.Answer.{nameless, numberOf, spanOf, refusedNumber, refusedLead, Leads, Begun};
 
 // Ours: a ue(v) code has at most 15 zeros.
 pub const MOST_ZEROS: usize = 15;
@@ -19,28 +18,12 @@ pub enum Number {
     Refused { why: Refusal },
 }
 
-// Bit k from position at on, which lies in the slice. The sum at + k is never made: it need not fit.
-fn bit_at(s: &[u8], at: usize, k: usize) -> u32
-    requires { ⌜ (at + k < 8 * length (now s)) × (k < 2 ^ 32) ⌝ }
-    ensures { λ r. ⌜ r ≡ bit (getD (bitsOf (now (s .entry))) (at + k) false) ⌝ }
+fn refuse(number: u8) -> Number
+    ensures { λ r. ⌜ r ≡ refusedNumber number ⌝ }
 {
-    let p = at % 8 + k;
-    let b = s[at / 8 + p / 8];
-    ((b >> (7 - p % 8)) % 2) as u32
-}
-
-// The number that n bits are, which lie in the slice `skip` bits behind position at. Every field is gathered here.
-fn gather(s: &[u8], at: usize, skip: usize, n: usize) -> u32
-    requires { ⌜ (at + skip + n ≤ 8 * length (now s)) × (skip ≤ 32) × (n ≤ 32) ⌝ }
-    ensures { λ r. ⌜ r ≡ value (take n (drop (at + skip) (bitsOf (now (s .entry))))) ⌝ }
-{
-    let mut v: u32 = 0;
-    let mut k: usize = 0;
-    while k < n {
-        v = v * 2 + bit_at(s, at, skip + k);
-        k += 1;
+    Number::Refused {
+        why: Refusal { number },
     }
-    v
 }
 
 // The number that n bits are, which lie in the slice from position at on.
@@ -48,28 +31,7 @@ pub fn field(s: &[u8], at: usize, n: usize) -> u32
     requires { ⌜ (at + n ≤ 8 * length (now s)) × (n ≤ 32) ⌝ }
     ensures { λ r. ⌜ r ≡ value (take n (drop at (bitsOf (now (s .entry))))) ⌝ }
 {
-    gather(s, at, 0, n)
-}
-
-// u(n), `skip` bits behind position at.
-fn u_behind(s: &[u8], at: usize, skip: usize, n: usize) -> Number
-    requires { ⌜ (skip ≤ 32) × (n ≤ 32) ⌝ }
-    ensures { λ r. ⌜ r ≡ numberOf (u nameless n at (drop (at + skip) (bitsOf (now (s .entry))))) ⌝ }
-{
-    if n == 0 {
-        return Number::Is { value: 0, width: 0 };
-    }
-    if s.len() < at / 8 + (at % 8 + skip + n + 7) / 8 {
-        return Number::Refused {
-            why: Refusal {
-                number: Refusal::PAST_END,
-            },
-        };
-    }
-    Number::Is {
-        value: gather(s, at, skip, n),
-        width: n,
-    }
+    window::word(s, at, n) as u32
 }
 
 // u(n), for every n up to 32.
@@ -77,7 +39,16 @@ pub fn read_u(s: &[u8], at: usize, n: usize) -> Number
     requires { ⌜ n ≤ 32 ⌝ }
     ensures { λ r. ⌜ r ≡ numberOf (u nameless n at (drop at (bitsOf (now (s .entry))))) ⌝ }
 {
-    u_behind(s, at, 0, n)
+    if n == 0 {
+        return Number::Is { value: 0, width: 0 };
+    }
+    if s.len() < at / 8 + (at % 8 + n + 7) / 8 {
+        return refuse(Refusal::PAST_END);
+    }
+    Number::Is {
+        value: field(s, at, n),
+        width: n,
+    }
 }
 
 // The signed number that v stands for in n bits.
@@ -85,57 +56,91 @@ pub fn to_signed(v: u32, n: usize) -> i32
     requires { ⌜ (0 < n) × (n ≤ 32) × (v < 2 ^ n) ⌝ }
     ensures { λ r. ⌜ r ≡ signedOf n v ⌝ }
 {
-    let half: u32 = 1 << (n - 1);
-    if v < half {
-        v as i32
-    } else {
-        let whole: u64 = 1 << n;
-        (v as i64 - whole as i64) as i32
+    let half: u64 = 1 << (n - 1);
+    let whole: u64 = 1 << n;
+    (((v as u64 + half) % whole) as i64 - half as i64) as i32
+}
+
+// The bits of a ue(v) code up to the end of the byte that holds its first one: the number that they are, how many they are, and the byte
+// behind them; or why there is none. Where they are all zeros so far, the next byte is all that counts, and no byte is loaded twice.
+enum Lead {
+    Is {
+        value: u64,
+        width: usize,
+        next: usize,
+    },
+    Refused {
+        why: Refusal,
+    },
+}
+
+fn refuse_lead(number: u8) -> Lead
+    ensures { λ r. ⌜ r ≡ refusedLead number ⌝ }
+{
+    Lead::Refused {
+        why: Refusal { number },
     }
 }
 
-// The zeros of a ue(v) code and the one behind them.
-fn read_zeros_then_one(s: &[u8], at: usize, most: usize) -> Number
+fn read_lead(s: &[u8], at: usize, most: usize) -> Lead
     requires { ⌜ most ≤ 31 ⌝ }
-    ensures { λ r. ⌜ r ≡ numberOf (zerosThenOne nameless most at 0 (drop at (bitsOf (now (s .entry))))) ⌝ }
+    ensures { λ r. ⌜ Leads (now (s .entry)) at most r ⌝ }
 {
-    let mut k: usize = 0;
-    loop {
-        if s.len() <= at / 8 + (at % 8 + k) / 8 {
-            return Number::Refused {
-                why: Refusal {
-                    number: Refusal::PAST_END,
-                },
-            };
+    let mut i = at / 8;
+    if s.len() <= i {
+        return refuse_lead(Refusal::PAST_END);
+    }
+    let mut have = 8 - at % 8;
+    let mut v = s[i] as u64 % (1u64 << have);
+    while v == 0 {
+        if most < have {
+            return refuse_lead(Refusal::TOO_MANY_ZEROS);
         }
-        if bit_at(s, at, k) == 1 {
-            return Number::Is {
-                value: k as u32,
-                width: k + 1,
-            };
+        i += 1;
+        if s.len() <= i {
+            return refuse_lead(Refusal::PAST_END);
         }
-        if k == most {
-            return Number::Refused {
-                why: Refusal {
-                    number: Refusal::TOO_MANY_ZEROS,
-                },
-            };
-        }
-        k += 1;
+        v = s[i] as u64;
+        have += 8;
+    }
+    Lead::Is {
+        value: v,
+        width: have,
+        next: i + 1,
     }
 }
 
-// The number of a ue(v) code with k zeros: what lies ahead of its own k bits is `ahead` bits wide.
-fn ue_number(k: u32, ahead: usize, own: Number) -> Number
-    requires { ⌜ (k ≤ 31) × (ahead ≤ 32) × Own k own ⌝ }
-    ensures { λ r. ⌜ r ≡ ueNumber k ahead own ⌝ }
+// How many of `have` bits, which are the number v, stand before their first one.
+fn zeros_before(v: u64, have: usize) -> usize
+    requires { ⌜ (0 < v) × (v < 2 ^ have) ⌝ }
+    ensures { λ r. ⌜ (r < have) × (v / 2 ^ (have - (r + 1)) ≡ 1) ⌝ }
 {
-    match own {
-        Number::Refused { why } => Number::Refused { why },
-        Number::Is { value, width } => Number::Is {
-            value: (1 << k) - 1 + value,
-            width: ahead + width,
-        },
+    have - (64 - u64::leading_zeros(v) as usize)
+}
+
+// A ue(v) code of so many zeros, of which the first `have` bits are the number lead and the byte `next` is behind them. All of its bits are a
+// number too, which is one more than the code's. The slice's length is looked at once, and only where another byte is loaded.
+fn read_code(s: &[u8], at: usize, lead: u64, have: usize, next: usize, zeros: usize) -> Number
+    requires { ⌜ Begun (now s) at lead have next zeros ⌝ }
+    ensures { λ r. ⌜ ((most : ℕ) → zeros ≤ most → r ≡ numberOf (ue nameless most at (drop at (bitsOf (now (s .entry)))))) ⌝ }
+{
+    let width = 2 * zeros + 1;
+    if have < width {
+        if s.len() - next < (width - have + 7) / 8 {
+            return refuse(Refusal::PAST_END);
+        }
+    }
+    let mut v = lead;
+    let mut n = have;
+    let mut i = next;
+    while n < width {
+        v = v * 256 + s[i] as u64;
+        n += 8;
+        i += 1;
+    }
+    Number::Is {
+        value: ((v >> (n - width)) - 1) as u32,
+        width,
     }
 }
 
@@ -144,37 +149,53 @@ pub fn read_ue(s: &[u8], at: usize, most: usize) -> Number
     requires { ⌜ most ≤ 31 ⌝ }
     ensures { λ r. ⌜ r ≡ numberOf (ue nameless most at (drop at (bitsOf (now (s .entry))))) ⌝ }
 {
-    match read_zeros_then_one(s, at, most) {
-        Number::Refused { why } => Number::Refused { why },
-        Number::Is {
-            value: k,
-            width: ahead,
-        } => ue_number(k, ahead, u_behind(s, at, ahead, k as usize)),
+    match read_lead(s, at, most) {
+        Lead::Refused { why } => Number::Refused { why },
+        Lead::Is {
+            value: lead,
+            width: have,
+            next,
+        } => {
+            let zeros = zeros_before(lead, have);
+            if most < zeros {
+                refuse(Refusal::TOO_MANY_ZEROS)
+            } else {
+                read_code(s, at, lead, have, next, zeros)
+            }
+        }
     }
 }
 
-// n zero bits, of which the first that is a one or that is missing decides.
+// n zero bits, of which the first that is a one or that is missing decides. What is left of a byte is looked at in one, its first bit as the
+// most significant of eight.
 pub fn read_zeros(s: &[u8], at: usize, n: usize) -> Number
     requires { ⌜ n < 2 ^ 32 ⌝ }
     ensures { λ r. ⌜ r ≡ spanOf (read (zeroBits nameless n) at (drop at (bitsOf (now (s .entry))))) ⌝ }
 {
-    let mut k: usize = 0;
-    while k < n {
-        if s.len() <= at / 8 + (at % 8 + k) / 8 {
-            return Number::Refused {
-                why: Refusal {
-                    number: Refusal::PAST_END,
-                },
-            };
+    if n == 0 {
+        return Number::Is { value: 0, width: 0 };
+    }
+    let mut i = at / 8;
+    if s.len() <= i {
+        return refuse(Refusal::PAST_END);
+    }
+    let mut have = 8 - at % 8;
+    let mut v = ((s[i] as u32) << (at % 8)) % 256;
+    let mut left = n;
+    while have < left {
+        if v != 0 {
+            return refuse(Refusal::NOT_ZERO);
         }
-        if bit_at(s, at, k) != 0 {
-            return Number::Refused {
-                why: Refusal {
-                    number: Refusal::NOT_ZERO,
-                },
-            };
+        i += 1;
+        if s.len() <= i {
+            return refuse(Refusal::PAST_END);
         }
-        k += 1;
+        v = s[i] as u32;
+        left -= have;
+        have = 8;
+    }
+    if v >> (8 - left) != 0 {
+        return refuse(Refusal::NOT_ZERO);
     }
     Number::Is { value: 0, width: n }
 }

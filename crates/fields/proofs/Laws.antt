@@ -1,13 +1,13 @@
 -- Laws by which the functions that read the fields of a level meet their definitions.
-use Prim.Native.Nat.{ℕ, _+_, _-_, _*_, _^_, _<_, _≤_}
+use Prim.Native.Nat.{ℕ, _+_, _-_, _*_, _/_, _%_, _^_, _<_, _≤_}
 use mathlib.Core.Path.{_≡_, refl, ap}
-use mathlib.Core.List.{List, [], _∷_, map}
+use mathlib.Core.List.{List, [], _∷_, _++_, map}
 use mathlib.Core.Bool.{Bool, true, false, cond}
 use native.Mathlib.Omega.{arith}
 use borrow.Author.Tests.{ltb-true, ltb-false, ne-eqb}
 use lib.Dec.{ltb}
 use lib.IntN.{ℤ}
-use lib.ListN.{length, take, drop}
+use lib.ListN.{length, take, drop, take-append-drop}
 use lib.Pow.{pow-mono}
 use lib.Seq.{drop-drop}
 use mir.Syntax.{w16}
@@ -21,6 +21,7 @@ use Rattle.tree.specs.Syntax.{Field, codingOf, row, read}
 use Rattle.tree.proofs.Elements.{twice-half, signed-low, signed-high}
 use Rattle.tree.proofs.Bits.{length-rest}
 use Rattle.tree.proofs.Steps.{fieldValue, valuesIn, cutIn, row-there, row-cut}
+use Rattle.window.proofs.Laws.{within}
 use Rattle.record.specs.declared.Block.{Block}
 use Rattle.record.specs.declared.Block.the-variants.{Nothing}
 use Rattle.record.specs.Name.{Name}
@@ -32,15 +33,44 @@ use Rattle.fields.specs.Step.{stepOf}
 
 -- ---- fields
 
--- the fields' values, from a position on
-abbrev pub valuesAt : List Coding → List Bool → ℕ → List ℤ
-valuesAt [] bits at = []
-valuesAt (c ∷ cs) bits at = fieldValue c (value (take (widthOf c) (drop at bits))) ∷ valuesAt cs bits (at + widthOf c)
+-- the values of fields that fill a word to its end: what is behind one is as wide as the fields after it
+abbrev pub wordValues : List Coding → ℕ → List ℤ
+wordValues [] word = []
+wordValues (c ∷ cs) word = fieldValue c (word / 2 ^ totalWidth cs % 2 ^ widthOf c) ∷ wordValues cs word
 
-values-at : (cs : List Coding) (bits : List Bool) (at : ℕ) → valuesIn cs (drop at bits) ≡ valuesAt cs bits at
-unfolding valuesIn
-values-at [] bits at = refl
-values-at (c ∷ cs) bits at = rw (drop-drop (widthOf c) at bits, values-at cs bits (at + widthOf c)) refl
+-- the same, out of the word that the fields are from a position on
+abbrev pub valuesAt : List Coding → List Bool → ℕ → List ℤ
+valuesAt cs bits at = wordValues cs (value (take (totalWidth cs) (drop at bits)))
+
+-- a word of w bits gives the values of the fields that lie behind its first a bits and fill it to its end
+word-values : (cs : List Coding) (bits : List Bool) (w a : ℕ) → a + totalWidth cs ≡ w → w ≤ length bits → valuesIn cs (drop a bits) ≡ wordValues cs (value (take w bits))
+unfolding valuesIn totalWidth
+word-values [] bits w a e h = refl
+word-values (c ∷ cs) bits w a e h =
+    let b : w - (a + widthOf c) ≡ totalWidth cs = omega arith in
+    rw (← rw b at (within bits w a (widthOf c) (omega arith) h), drop-drop (widthOf c) a bits, word-values cs bits w (a + widthOf c) (omega arith) h)
+
+-- the values of a row of fields in two parts
+values-joined : (cs ds : List Coding) (bits : List Bool) → valuesIn (cs ++ ds) bits ≡ valuesIn cs bits ++ valuesIn ds (drop (totalWidth cs) bits)
+unfolding valuesIn totalWidth
+values-joined [] ds bits = refl
+values-joined (c ∷ cs) ds bits = rw (values-joined cs ds (drop (widthOf c) bits), drop-drop (totalWidth cs) (widthOf c) bits)
+
+-- and the width of a row in two parts
+width-joined : (cs ds : List Coding) → totalWidth (cs ++ ds) ≡ totalWidth cs + totalWidth ds
+unfolding totalWidth
+width-joined [] ds = omega arith
+width-joined (c ∷ cs) ds = omega (arith, width-joined cs ds)
+
+-- the values of a row: of the first k fields out of one word, and of the others out of the next
+values-at : (k : ℕ) (cs : List Coding) (s : List ℕ) (at : ℕ) → at + totalWidth cs ≤ 8 * length s
+    → valuesIn cs (drop at (bitsOf s)) ≡ valuesAt (take k cs) (bitsOf s) at ++ valuesAt (drop k cs) (bitsOf s) (at + totalWidth (take k cs))
+values-at k cs s at h =
+    let w = totalWidth (take k cs) in
+    let t = rw take-append-drop at (width-joined (take k cs) (drop k cs)) in
+    let x = word-values (take k cs) (drop at (bitsOf s)) w 0 (omega arith) (omega (arith, length-rest s at)) in
+    let y = word-values (drop k cs) (drop (at + w) (bitsOf s)) (totalWidth (drop k cs)) 0 (omega arith) (omega (arith, length-rest s (at + w))) in
+    rw (← x, ← y, ← drop-drop w at (bitsOf s)) (rw take-append-drop at (values-joined (take k cs) (drop k cs) (drop at (bitsOf s))))
 
 -- the number of a field that is cut off
 cut-number : {N : Type 0} (f : Field N) (fs : List (Field N)) (at n : ℕ) → numberIn (cutIn f fs at n) ≡ pastEnd
@@ -67,11 +97,12 @@ signed-fits n v some most h = go (ltb v (2 ^ (n - 1))) refl
         let p : 2 ^ (n - 1) ≤ 2 ^ 15 = pow-mono {j = 15} (omega arith) in
         rw (signed-high n v l h) (record { sfits = omega (arith, twice-half n some) })
 
--- the answer for the fields of a level, where they are there, and where they are not
+-- the answer for the fields of a level, where they are there, the first k in one word and the others in the next, and where they are not
 module _ (l : ℕ) (s : List ℕ) (at : ℕ) where
-  pub fields-is : at + totalWidth (codings l) ≤ 8 * length s
-      → Is (blockOf l (valuesAt (codings l) (bitsOf s) at)) (totalWidth (codings l)) ≡ stepOf (mapped (blockOf l) (read (row (fieldsOf l)) at (drop at (bitsOf s))))
-  fields-is h = rw (row-there (fieldsOf l) at (drop at (bitsOf s)) (omega (arith, length-rest s at)), values-at (codings l) (bitsOf s) at)
+  pub fields-is : (k : ℕ) → at + totalWidth (codings l) ≤ 8 * length s
+      → Is (blockOf l (valuesAt (take k (codings l)) (bitsOf s) at ++ valuesAt (drop k (codings l)) (bitsOf s) (at + totalWidth (take k (codings l))))) (totalWidth (codings l))
+      ≡ stepOf (mapped (blockOf l) (read (row (fieldsOf l)) at (drop at (bitsOf s))))
+  fields-is k h = rw (row-there (fieldsOf l) at (drop at (bitsOf s)) (omega (arith, length-rest s at)), values-at k (codings l) s at h)
 
   pub fields-refused : 0 < totalWidth (codings l) → 8 * length s < at + totalWidth (codings l)
       → Refused (refusal pastEnd) ≡ stepOf (mapped (blockOf l) (read (row (fieldsOf l)) at (drop at (bitsOf s))))

@@ -2,9 +2,9 @@
 use record::Block;
 use refusals::Refusal;
 ghost use mathlib.Core.Path.{_≡_};
-ghost use Prim.Native.Nat.{_+_, _*_, _<_, _≤_, _^_};
-ghost use lib.ListN.{length, drop, take};
-ghost use Rattle.tree.specs.Bits.{bitsOf, value};
+ghost use Prim.Native.Nat.{_/_, _%_, _<_, _≤_, _^_};
+ghost use lib.ListN.{drop};
+ghost use Rattle.tree.specs.Bits.{bitsOf};
 ghost use Rattle.tree.specs.Reading.{mapped};
 ghost use Rattle.tree.specs.Syntax.{row, read};
 ghost use Rattle.record.specs.Level.{fieldsOf};
@@ -25,16 +25,16 @@ pub fn refuse(number: u8) -> Step
     }
 }
 
-// A field of at most 16 bits, which lies in the slice.
-fn field16(s: &[u8], at: usize, n: usize) -> u16
-    requires { ⌜ (at + n ≤ 8 * length (now s)) × (n ≤ 16) ⌝ }
-    ensures { λ r. ⌜ r ≡ value (take n (drop at (bitsOf (now (s .entry))))) ⌝ }
+// A field of n bits out of a word that has `behind` bits behind it.
+fn field_in(word: u64, behind: usize, n: usize) -> u16
+    requires { ⌜ (behind < 64) × (n ≤ 16) ⌝ }
+    ensures { λ r. ⌜ r ≡ word / 2 ^ behind % 2 ^ n ⌝ }
 {
-    bits::field(s, at, n) as u16
+    ((word >> behind) % (1u64 << n)) as u16
 }
 
-// The fields of level 1. Here and in the next two the slice's length is looked at once: n bits from `at` on lie in its first
-// (at + n + 7) / 8 bytes.
+// The fields of level 1, out of one word. Here and in the next two the slice's length is looked at once: n bits from `at` on lie in its
+// first (at + n + 7) / 8 bytes.
 fn fields1(s: &[u8], at: usize) -> Step
     requires { ⌜ at < 2 ^ 60 ⌝ }
     ensures { λ r. ⌜ r ≡ stepOf (mapped (blockOf 1) (read (row (fieldsOf 1)) at (drop at (bitsOf (now (s .entry)))))) ⌝ }
@@ -42,11 +42,10 @@ fn fields1(s: &[u8], at: usize) -> Step
     if s.len() < (at + 43) / 8 {
         return refuse(Refusal::PAST_END);
     }
-    let p1 = at + 12;
-    let p2 = p1 + 12;
-    let min_pq = field16(s, at, 12);
-    let max_pq = field16(s, p1, 12);
-    let avg_pq = field16(s, p2, 12);
+    let word = window::word(s, at, 36);
+    let min_pq = field_in(word, 24, 12);
+    let max_pq = field_in(word, 12, 12);
+    let avg_pq = field_in(word, 0, 12);
     Step::Is {
         block: Block::Level1 {
             min_pq,
@@ -57,7 +56,7 @@ fn fields1(s: &[u8], at: usize) -> Step
     }
 }
 
-// The fields of level 2.
+// The fields of level 2: four out of one word, three out of the next.
 fn fields2(s: &[u8], at: usize) -> Step
     requires { ⌜ at < 2 ^ 60 ⌝ }
     ensures { λ r. ⌜ r ≡ stepOf (mapped (blockOf 2) (read (row (fieldsOf 2)) at (drop at (bitsOf (now (s .entry)))))) ⌝ }
@@ -65,19 +64,15 @@ fn fields2(s: &[u8], at: usize) -> Step
     if s.len() < (at + 92) / 8 {
         return refuse(Refusal::PAST_END);
     }
-    let p1 = at + 12;
-    let p2 = p1 + 12;
-    let p3 = p2 + 12;
-    let p4 = p3 + 12;
-    let p5 = p4 + 12;
-    let p6 = p5 + 12;
-    let target_max_pq = field16(s, at, 12);
-    let trim_slope = field16(s, p1, 12);
-    let trim_offset = field16(s, p2, 12);
-    let trim_power = field16(s, p3, 12);
-    let trim_chroma_weight = field16(s, p4, 12);
-    let trim_saturation_gain = field16(s, p5, 12);
-    let ms_weight = bits::to_signed(bits::field(s, p6, 13), 13) as i16;
+    let word = window::word(s, at, 48);
+    let target_max_pq = field_in(word, 36, 12);
+    let trim_slope = field_in(word, 24, 12);
+    let trim_offset = field_in(word, 12, 12);
+    let trim_power = field_in(word, 0, 12);
+    let rest = window::word(s, at + 48, 37);
+    let trim_chroma_weight = field_in(rest, 25, 12);
+    let trim_saturation_gain = field_in(rest, 13, 12);
+    let ms_weight = bits::to_signed(field_in(rest, 0, 13) as u32, 13) as i16;
     Step::Is {
         block: Block::Level2 {
             target_max_pq,
@@ -100,13 +95,11 @@ fn fields5(s: &[u8], at: usize) -> Step
     if s.len() < (at + 59) / 8 {
         return refuse(Refusal::PAST_END);
     }
-    let p1 = at + 13;
-    let p2 = p1 + 13;
-    let p3 = p2 + 13;
-    let left_offset = field16(s, at, 13);
-    let right_offset = field16(s, p1, 13);
-    let top_offset = field16(s, p2, 13);
-    let bottom_offset = field16(s, p3, 13);
+    let word = window::word(s, at, 52);
+    let left_offset = field_in(word, 39, 13);
+    let right_offset = field_in(word, 26, 13);
+    let top_offset = field_in(word, 13, 13);
+    let bottom_offset = field_in(word, 0, 13);
     Step::Is {
         block: Block::Level5 {
             left_offset,

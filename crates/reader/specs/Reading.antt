@@ -1,19 +1,16 @@
 -- What reading answers, and on the way to it; and the table as far as the last block.
 use Prim.Native.Nat.{ℕ}
 use mathlib.Core.List.{List, []}
-use mathlib.Core.Bool.{Bool, true, false}
-use Rattle.refusals.specs.declared.Refusal.{Refusal}
-use Rattle.refusals.specs.Refusals.{refusal}
+use mathlib.Core.Bool.{Bool, cond}
 use Rattle.tree.specs.Bits.{bitsOf}
-use Rattle.tree.specs.Reading.{numberIn, Out, ok, no}
-use Rattle.tree.specs.Syntax.{Syntax, done, _>>=_}
+use Rattle.tree.specs.Reading.{meets, breaks, numberIn, Out, ok, no, andThen}
+use Rattle.tree.specs.Syntax.{Syntax, done, _>>=_, read, alignment, leftOver}
 use Rattle.record.specs.declared.Record.{Record}
-use Rattle.record.specs.Name.{Name}
+use Rattle.record.specs.Name.{Name, «dm_alignment_zero_bit», «end»}
 use Rattle.record.specs.Made.{recordOf}
 use Rattle.record.specs.Blocks.{emptyRecord}
 use Rattle.syntax.specs.Data.{Item, keptIn, passedIn, Data, recordFrom, blocksAfter, bareData}
 use Rattle.head.specs.Opening.{opening}
-use Rattle.reader.specs.declared.Found.{Found}
 use Rattle.reader.specs.declared.Reading.{Reading}
 
 -- 01, The record: an accepted reading gives the record and the bits read, and by 02, b the number of blocks passed over; on a refusal
@@ -45,17 +42,9 @@ summaryOf flag is = summary (recordOf flag (keptIn is)) (passedIn is)
 abbrev pub summaryIn : Data → Summary
 summaryIn d = summaryOf (d .refresh) (d .items)
 
--- no refusal
-abbrev pub nothingWrong : Refusal
-nothingWrong = refusal 0
-
--- a record that was found, or why there is none; beside a refusal the record is empty, the width 0 and nothing passed over
-abbrev pub refusedFound : Refusal → Found
-refusedFound q = record { ok = false; why = q; width = 0; skipped = 0; «record» = emptyRecord }
-
-abbrev pub foundOf : Out Name Summary → Found
-foundOf (ok x n) = record { ok = true; why = nothingWrong; width = n; skipped = x .skipped; «record» = x .«record» }
-foundOf (no f) = refusedFound (refusal (numberIn f))
+-- behind the last block: zero bits to the next byte boundary, and there the input ends; its value is the position there
+abbrev pub endFrom : ℕ → List Bool → Out Name ℕ
+endFrom at s = andThen (read (alignment «dm_alignment_zero_bit») at s) (λ z q t. cond (meets (leftOver «end» q t)) (ok q 0) (no (breaks (leftOver «end» q t)))) at s
 
 -- what stands before the blocks, and the blocks
 unfoldable pub headAndBlocks : Syntax Name Summary

@@ -2,26 +2,20 @@
 use bits::Number;
 use block::Part;
 use head::Opening;
+use met::Met;
+use record::Place;
 use record::Record;
 use refusals::Refusal;
 ghost use mathlib.Core.Path.{_≡_};
-ghost use mathlib.Core.List.{[]};
-ghost use Prim.Native.Nat.{_+_, _<_, _≤_, _^_};
+ghost use Prim.Native.Nat.{_<_, _^_};
 ghost use lib.ListN.{drop};
 ghost use Rattle.tree.specs.Bits.{bitsOf};
-ghost use Rattle.tree.specs.Reading.{ok, mapped};
+ghost use Rattle.tree.specs.Reading.{ok};
 ghost use Rattle.tree.specs.Syntax.{read};
-ghost use Rattle.syntax.specs.Data.{mostAnnounced, blocksAfter, «ST2094-10_data»};
-ghost use Rattle.reader.specs.Reading.{readBare, summary, summaryOf, summaryIn, foundOf, refusedFound, headAndBlocks};
-
-// A record that was found, how many bits it took and how many blocks were passed over, or why there is none.
-struct Found {
-    ok: bool,
-    why: Refusal,
-    skipped: u8,
-    width: usize,
-    record: Record,
-}
+ghost use Rattle.bits.specs.Answer.{numberOf};
+ghost use Rattle.syntax.specs.Data.{announced};
+ghost use Rattle.head.specs.Opening.{opening};
+ghost use Rattle.reader.specs.Reading.{refusedReading, readBare, endFrom};
 
 // 0 or the number of the refusal, the number of blocks of reserved levels that were passed over (beside it, where it takes no room of
 // its own), the bits read, and the record.
@@ -32,46 +26,61 @@ pub struct Reading {
     pub record: Record,
 }
 
-fn accepted(width: usize, skipped: u8, record: Record) -> Found
-    ensures { λ r. ⌜ r ≡ foundOf (ok (summary «record» skipped) width) ⌝ }
-{
-    Found {
-        ok: true,
-        why: Refusal { number: 0 },
-        width,
-        skipped,
-        record,
-    }
-}
-
 // 01, The record: beside a refusal the record is empty.
-fn refused(why: Refusal) -> Found
-    ensures { λ r. ⌜ r ≡ refusedFound why ⌝ }
+fn refused(number: u8) -> Reading
+    ensures { λ r. ⌜ r ≡ refusedReading number ⌝ }
 {
     let record = Record::empty();
-    Found {
-        ok: false,
-        why,
-        width: 0,
+    Reading {
+        result: number,
+        bits: 0,
         skipped: 0,
         record,
     }
 }
 
-// n blocks from position start on, each of which may follow the known ones before it, with nothing between them. The known ones are as
-// many as the record has by then.
-fn read_blocks(s: &[u8], start: usize, refresh: bool, n: u8) -> Found
-    requires { ⌜ (start < 2 ^ 20) × (n ≤ mostAnnounced) ⌝ }
-    ensures { λ r. ⌜ r ≡ foundOf (mapped (summaryOf refresh) (read (blocksAfter [] n) start (drop start (bitsOf (now (s .entry)))))) ⌝ }
+// What stands behind the last block: zero bits to the next byte boundary, where the input ends. Its number is the position there.
+fn read_end(s: &[u8], at: usize) -> Number
+    requires { ⌜ at < 2 ^ 31 ⌝ }
+    ensures { λ r. ⌜ r ≡ numberOf (endFrom at (drop at (bitsOf (now (s .entry))))) ⌝ }
+{
+    match bits::read_zeros(s, at, head::zeros_behind(true, at)) {
+        Number::Refused { why } => Number::Refused { why },
+        Number::Is { width, .. } => {
+            let end = at + width;
+            if end / 8 < s.len() {
+                Number::Refused {
+                    why: Refusal {
+                        number: Refusal::BYTES_REMAIN,
+                    },
+                }
+            } else {
+                Number::Is {
+                    value: end as u32,
+                    width,
+                }
+            }
+        }
+    }
+}
+
+// The answer, where the head was read and announces n blocks, which begin at `start`: each block may follow the known ones before it, with
+// nothing between them, and behind the last the data ends. The record is made where it lies, and what was met of the blocks is kept beside
+// it, because each call with a record, and each answer with one, copies its places.
+fn read_blocks(s: &[u8], start: usize, refresh: bool, n: u8) -> Reading
+    requires { ⌜ read opening 0 (bitsOf (now s)) ≡ ok (announced refresh n) start ⌝ }
+    ensures { λ r. ⌜ r ≡ readBare (now (s .entry)) ⌝ }
 {
     let mut r = Record::without_blocks(refresh);
+    let mut seen = Met::nothing();
+    let mut targets: [u16; 17] = [met::NO_TARGET; 17];
     let mut width: usize = 0;
     let mut skipped: u8 = 0;
     let mut i: u8 = 0;
     while i < n {
         match block::read_block(s, start + width) {
             Part::Refused { why } => {
-                return refused(why);
+                return refused(why.number);
             }
             Part::Passed { width: w } => {
                 skipped += 1;
@@ -79,58 +88,29 @@ fn read_blocks(s: &[u8], start: usize, refresh: bool, n: u8) -> Found
                 i += 1;
             }
             Part::Kept { block, width: m } => {
-                if valid::may_follow(r, r.count, block) {
-                    r = valid::with_block(r, block);
+                if met::admits(seen, &targets, block) {
+                    let k = seen.twos as usize;
+                    targets[k] = met::target_of(block);
+                    seen = met::including(seen, block);
+                    let j = r.count as usize;
+                    r.places[j] = Place { block };
+                    r.count = r.count + 1;
                     width += m;
                     i += 1;
                 } else {
-                    return refused(Refusal {
-                        number: Refusal::REPEATED,
-                    });
+                    return refused(Refusal::REPEATED);
                 }
             }
         }
     }
-    accepted(width, skipped, r)
-}
-
-// The head and the blocks.
-fn read_head_and_blocks(s: &[u8]) -> Found
-    ensures { λ r. ⌜ r ≡ foundOf (read headAndBlocks 0 (bitsOf (now (s .entry)))) ⌝ }
-{
-    match head::read_head(s) {
-        Opening::Refused { why } => refused(why),
-        Opening::Is {
-            refresh,
-            count,
-            width: n,
-        } => {
-            let blocks = read_blocks(s, n, refresh, count);
-            if blocks.ok {
-                let record = blocks.record;
-                accepted(n + blocks.width, blocks.skipped, record)
-            } else {
-                blocks
-            }
-        }
-    }
-}
-
-// The head, the blocks, and zero bits to the next byte boundary.
-fn read_whole_bytes(s: &[u8]) -> Found
-    ensures { λ r. ⌜ r ≡ foundOf (mapped summaryIn (read «ST2094-10_data» 0 (bitsOf (now (s .entry))))) ⌝ }
-{
-    let most = read_head_and_blocks(s);
-    if most.ok {
-        let n = most.width;
-        let skipped = most.skipped;
-        let record = most.record;
-        match bits::read_zeros(s, n, head::zeros_behind(true, n)) {
-            Number::Refused { why } => refused(why),
-            Number::Is { width, .. } => accepted(n + width, skipped, record),
-        }
-    } else {
-        most
+    match read_end(s, start + width) {
+        Number::Refused { why } => refused(why.number),
+        Number::Is { value: bits, .. } => Reading {
+            result: 0,
+            skipped,
+            bits,
+            record: r,
+        },
     }
 }
 
@@ -138,32 +118,12 @@ fn read_whole_bytes(s: &[u8]) -> Found
 pub fn read_data(input: &[u8]) -> Reading
     ensures { λ r. ⌜ r ≡ readBare (now (input .entry)) ⌝ }
 {
-    let data = read_whole_bytes(input);
-    let record = data.record;
-    let empty = Record::empty();
-    if data.ok {
-        if data.width / 8 < input.len() {
-            return Reading {
-                result: Refusal::BYTES_REMAIN,
-                bits: 0,
-                skipped: 0,
-                record: empty,
-            };
-        }
-        let bits = data.width as u32;
-        Reading {
-            result: 0,
-            bits,
-            skipped: data.skipped,
-            record,
-        }
-    } else {
-        let why = data.why;
-        Reading {
-            result: why.number,
-            bits: 0,
-            skipped: 0,
-            record: empty,
-        }
+    match head::read_head(input) {
+        Opening::Refused { why } => refused(why.number),
+        Opening::Is {
+            refresh,
+            count,
+            width,
+        } => read_blocks(input, width, refresh, count),
     }
 }

@@ -152,6 +152,10 @@ few-blocks bs w =
     let c = leb-true (many 5 bs) 1 (search tests depth 12) in
     omega arith
 
+-- of which sixteen at most are of level 2
+pub few-of-level-2 : (bs : List Block) → wellFormed [] bs ≡ true → many 2 bs ≤ level 2 .most
+few-of-level-2 bs w = let h = sym (walk-is-clauses bs) ∙ w in leb-true (many 2 bs) (level 2 .most) (search tests depth 12)
+
 -- what the test of the flag says
 pub flag-means : (f : Bool) (n : ℕ) → f || eqb n 0 ≡ true → f ≡ false → n ≡ 0
 flag-means f n h e = eqb-true n 0 (rw e at h)

@@ -1,14 +1,20 @@
--- `bits::field` meets its contract: the bits behind nothing.
+-- `bits::field` meets its contract: 32 bits hold the number.
 use borrow.Author.Needs.{needs}
-use native.Mathlib.Nat.{add-zero}
+use native.Mathlib.Omega.{arith}
+use lib.ListN.{drop}
+use Rattle.tree.specs.Bits.{bitsOf}
+use Rattle.tree.proofs.Bits.{value-take-lt}
 use Rattle.bits.proofs.field.Statement.{statement}
 use Rattle.bits.proofs.field.Tie as tie
 
-gather-requires : tie.Need-gather-requires
-gather-requires c κs = search needs
+word-requires : tie.Need-word-requires
+word-requires c κs = search needs
+
+cast-result : tie.Need-cast-result
+cast-result c = let a = c .before .before .args in omega (arith, value-take-lt (drop (a .at) (bitsOf (a .s .now))) (a .n) 32 (omega arith))
 
 returns : tie.Need-returns
-returns c = rw (add-zero (c .before .before .args .at)) at (c .gather .ensures)
+returns c = search needs
 
 pub field-spec : {M : Type 1} → statement M
-field-spec = tie.close (tie.spec gather-requires returns)
+field-spec = tie.close (tie.spec word-requires cast-result returns)

@@ -1,85 +1,119 @@
--- `bits::read_zeros` meets its contract: behind k zero bits, the answer for the others is the answer for all.
-use Prim.Native.Nat.{ℕ, suc, _≤_, _-_, _+_}
-use mathlib.Core.Path.{_≡_, _∙_, sym, ap}
+-- `bits::read_zeros` meets its contract: behind zero bits, the answer for those that are left is the answer for all.
+use Prim.Native.Nat.{_+_, _/_}
+use mathlib.Core.Path.{_≡_, refl, _∙_, sym, ap}
 use native.Mathlib.Omega.{arith}
-use native.Mathlib.Nat.{add-zero}
-use mathlib.Core.Bool.{false}
-use lib.ListN.{drop, getD}
-use Rattle.refusals.specs.Refusals.{refusal, notZero}
-use Rattle.tree.specs.Bits.{bitsOf, bit}
-use Rattle.tree.specs.Reading.{ok, no, widened, cutOff}
+use lib.ListN.{drop}
+use Rattle.tree.specs.Bits.{bitsOf, valueFrom}
 use Rattle.tree.specs.Syntax.{read, zeroBits}
-use Rattle.tree.proofs.Bits.{bit-lt}
-use Rattle.bits.specs.declared.Number.the-variants.{Refused}
-use Rattle.bits.specs.Answer.{nameless, spanOf}
-use Rattle.bits.proofs.Reading.{zeros-end, zeros-one, zeros-zero, widened-twice, widened-none}
+use Rattle.tree.proofs.Bits.{length-rest}
+use Rattle.bits.specs.Answer.{spanOf}
+use Rattle.bits.proofs.Reading.{zeros-end}
+use Rattle.bits.proofs.Zeros.{Checked, checked-none, checked-broken, checked-end, checked-more, checked-last-broken, checked-all}
+use borrow.Author.Needs.{needs}
 use Rattle.bits.proofs.read_zeros.Statement.{statement}
 use Rattle.bits.proofs.read_zeros.Tie as tie
 
 abbrev Inv-loop : tie.InvT-loop
-Inv-loop s at n k₀ k = (k ≤ n) × (widened k (read (zeroBits nameless (n - k)) (at + k) (drop (at + k) (bitsOf s))) ≡ read (zeroBits nameless n) at (drop at (bitsOf s)))
+Inv-loop s at n i₀ have₀ v₀ left₀ i have v left = Checked s at n i have v left
 
 abbrev μ-loop : tie.MeasureT-loop
-μ-loop s at n k₀ k = n - k
+μ-loop s at n i₀ have₀ v₀ left₀ i have v left = left
+
+returns : tie.Need-returns Inv-loop μ-loop
+unfolding read zeroBits
+returns c = let n : c .before .before .args .n ≡ 0 = omega arith in rw n
+
+refuse-requires : tie.Need-refuse-requires Inv-loop μ-loop
+refuse-requires c κs = search needs
+
+returns-2 : tie.Need-returns-2 Inv-loop μ-loop
+unfolding valueFrom
+returns-2 c =
+    let a = c .before .before .before .before .args in
+    c .refuse .ensures ∙ sym (ap spanOf (zeros-end (a .n) (a .at) (drop (a .at) (bitsOf (a .s .now))) 0 (omega (arith, length-rest (a .s .now) (a .at))) (omega arith) refl))
+
+sub-have : tie.Need-sub-have Inv-loop μ-loop
+sub-have c = omega arith
+
+shared-slice-read-v : tie.Need-shared-slice-read-v Inv-loop μ-loop
+shared-slice-read-v c = omega arith
+
+cast-v : tie.Need-cast-v Inv-loop μ-loop
+cast-v c = omega (arith, c .shared-slice-known2 .given (c .before .before .before .before .args .at / 8))
+
+cast-v-2 : tie.Need-cast-v-2 Inv-loop μ-loop
+cast-v-2 c = omega arith
+
+shl-v : tie.Need-shl-v Inv-loop μ-loop
+shl-v c = omega arith
 
 loop-holds : tie.Need-loop-holds Inv-loop μ-loop
 loop-holds c =
-    let a = c .before .args in
-    let e : a .n - 0 ≡ a .n = omega arith in
-    (omega arith, rw (e, add-zero (a .at)) (widened-none (read (zeroBits nameless (a .n)) (a .at) (drop (a .at) (bitsOf (a .s .now))))))
-
-add-if1 : tie.Need-add-if1 Inv-loop μ-loop
-add-if1 c = omega arith
-
-add-if1-2 : tie.Need-add-if1-2 Inv-loop μ-loop
-add-if1-2 c = omega arith
-
-returns : tie.Need-returns Inv-loop μ-loop
-returns c =
     let a = c .before .before .before .before .args in
-    let l = c .before .before .loop in
-    let m : a .n - l .k ≡ suc (a .n - l .k - 1) = omega arith in
-    let e : read (zeroBits nameless (a .n)) (a .at) (drop (a .at) (bitsOf (a .s .now))) ≡ no (cutOff (a .at + l .k) nameless) = sym (l .inv .1) ∙ rw (m, zeros-end (a .s .now) (a .at) (l .k) (a .n - l .k - 1) (omega arith)) in
-    sym (ap spanOf e)
+    checked-none (a .s .now) (λ j. c .before .before .before .shared-slice-known .given j .fits) (a .at) (a .n) (omega arith) (omega arith)
 
-bit-at-requires : tie.Need-bit-at-requires Inv-loop μ-loop
-bit-at-requires c κs = omega arith
+refuse-requires-2 : tie.Need-refuse-requires-2 Inv-loop μ-loop
+refuse-requires-2 c κs = search needs
 
-returns-2 : tie.Need-returns-2 Inv-loop μ-loop
-returns-2 c =
-    let a = c .before .before .before .before .before .before .args in
+returns-3 : tie.Need-returns-3 Inv-loop μ-loop
+returns-3 c =
+    let a = c .before .before .before .before .before .before .before .before .args in
+    let l = c .before .before .before .loop in
+    c .refuse2 .ensures ∙ checked-broken (a .s .now) (λ j. c .before .before .before .before .before .before .before .shared-slice-known .given j .fits) (a .at) (a .n) (l .i) (l .have) (l .v) (l .left) (l .inv) (omega arith) (λ e. omega arith)
+
+add-i : tie.Need-add-i Inv-loop μ-loop
+add-i c = omega arith
+
+refuse-requires-3 : tie.Need-refuse-requires-3 Inv-loop μ-loop
+refuse-requires-3 c κs = search needs
+
+returns-4 : tie.Need-returns-4 Inv-loop μ-loop
+returns-4 c =
+    let a = c .before .before .before .before .before .before .before .before .before .args in
     let l = c .before .before .before .before .loop in
-    let m : a .n - l .k ≡ suc (a .n - l .k - 1) = omega arith in
-    let b = getD (bitsOf (a .s .now)) (a .at + l .k) false in
-    let o : bit b ≡ 1 = omega (arith, bit-lt b) in
-    let z = zeros-one (a .s .now) (a .at) (l .k) (a .n - l .k - 1) (omega arith) o in
-    let e : read (zeroBits nameless (a .n)) (a .at) (drop (a .at) (bitsOf (a .s .now))) ≡ no (z .0) = sym (l .inv .1) ∙ ap (λ (j : ℕ). widened (l .k) (read (zeroBits nameless j) (a .at + l .k) (drop (a .at + l .k) (bitsOf (a .s .now))))) m ∙ ap (widened (l .k)) (z .1) in
-    let f : Refused (refusal notZero) ≡ spanOf (no (z .0)) = ap (λ (j : ℕ). Refused (refusal j)) (sym (z .2)) in
-    f ∙ sym (ap spanOf e)
+    c .refuse3 .ensures ∙ checked-end (a .s .now) (λ j. c .before .before .before .before .before .before .before .before .shared-slice-known .given j .fits) (a .at) (a .n) (l .i) (l .have) (l .v) (l .left) (l .inv) (omega arith) (omega arith) (omega arith)
 
-add-k : tie.Need-add-k Inv-loop μ-loop
-add-k c = omega arith
+shared-slice-read-v-2 : tie.Need-shared-slice-read-v-2 Inv-loop μ-loop
+shared-slice-read-v-2 c = omega arith
+
+cast-v-3 : tie.Need-cast-v-3 Inv-loop μ-loop
+cast-v-3 c = omega (arith, c .shared-slice-known3 .given (c .before .before .before .before .loop .i + 1))
+
+sub-left : tie.Need-sub-left Inv-loop μ-loop
+sub-left c = omega arith
 
 loop-less : tie.Need-loop-less Inv-loop μ-loop
 loop-less c = omega arith
 
 loop-again : tie.Need-loop-again Inv-loop μ-loop
 loop-again c =
-    let a = c .before .before .before .before .before .before .args in
+    let a = c .before .before .before .before .before .before .before .before .before .args in
     let l = c .before .before .before .before .loop in
-    let m : a .n - l .k ≡ suc (a .n - (l .k + 1)) = omega arith in
-    let z = zeros-zero (a .s .now) (a .at) (l .k) (a .n - (l .k + 1)) (omega arith) (λ e. omega arith) in
-    (omega arith, sym (widened-twice (l .k) 1 (read (zeroBits nameless (a .n - (l .k + 1))) (a .at + (l .k + 1)) (drop (a .at + (l .k + 1)) (bitsOf (a .s .now))))) ∙ sym (rw (m, z)) ∙ l .inv .1)
+    checked-more (a .s .now) (λ j. c .before .before .before .before .before .before .before .before .shared-slice-known .given j .fits) (a .at) (a .n) (l .i) (l .have) (l .v) (l .left) (l .inv) (omega arith) (omega arith) (omega arith)
 
-returns-3 : tie.Need-returns-3 Inv-loop μ-loop
-unfolding read zeroBits
-returns-3 c =
-    let a = c .before .before .before .args in
-    let l = c .before .loop in
-    let k : l .k ≡ a .n = omega arith in
-    let z : a .n - l .k ≡ 0 = omega arith in
-    let e : read (zeroBits nameless (a .n)) (a .at) (drop (a .at) (bitsOf (a .s .now))) ≡ ok tt (a .n) = sym (l .inv .1) ∙ rw (z, k, add-zero (a .n)) in
-    sym (ap spanOf e)
+sub-if5 : tie.Need-sub-if5 Inv-loop μ-loop
+sub-if5 c = omega arith
+
+cast-if5 : tie.Need-cast-if5 Inv-loop μ-loop
+cast-if5 c = omega arith
+
+shr-if5 : tie.Need-shr-if5 Inv-loop μ-loop
+shr-if5 c = omega arith
+
+refuse-requires-4 : tie.Need-refuse-requires-4 Inv-loop μ-loop
+refuse-requires-4 c κs = search needs
+
+returns-5 : tie.Need-returns-5 Inv-loop μ-loop
+returns-5 c =
+    let a = c .before .before .before .before .before .before .before .before .args in
+    let l = c .before .before .before .loop in
+    c .refuse4 .ensures ∙ checked-last-broken (a .s .now) (λ j. c .before .before .before .before .before .before .before .shared-slice-known .given j .fits) (a .at) (a .n) (l .i) (l .have) (l .v) (l .left) (l .inv) (omega arith) (c .before .if5 .taken)
+
+returns-6 : tie.Need-returns-6 Inv-loop μ-loop
+returns-6 c =
+    let a = c .before .before .before .before .before .before .before .args in
+    let l = c .before .before .loop in
+    checked-all (a .s .now) (λ j. c .before .before .before .before .before .before .shared-slice-known .given j .fits) (a .at) (a .n) (l .i) (l .have) (l .v) (l .left) (l .inv) (omega arith) (omega arith)
 
 pub read-zeros-spec : {M : Type 1} → statement M
 read-zeros-spec =
@@ -87,13 +121,28 @@ read-zeros-spec =
     (tie.spec
     Inv-loop
     μ-loop
-    loop-holds
-    add-if1
-    add-if1-2
     returns
-    bit-at-requires
+    refuse-requires
     returns-2
-    add-k
+    sub-have
+    shared-slice-read-v
+    cast-v
+    cast-v-2
+    shl-v
+    loop-holds
+    refuse-requires-2
+    returns-3
+    add-i
+    refuse-requires-3
+    returns-4
+    shared-slice-read-v-2
+    cast-v-3
+    sub-left
     loop-less
     loop-again
-    returns-3)
+    sub-if5
+    cast-if5
+    shr-if5
+    refuse-requires-4
+    returns-5
+    returns-6)

@@ -1,59 +1,42 @@
--- `reader::read_data` meets its contract: behind the zero bits the input ends, or bytes remain.
-use mathlib.Core.Path.{_≡_}
-use mathlib.Core.Bool.{true}
-use native.Mathlib.Omega.{arith}
+-- `reader::read_data` meets its contract: no head, or a head and what follows it.
+use mathlib.Core.Path.{_∙_, sym, ap}
+use Rattle.refusals.specs.declared.Refusal.{Refusal}
 use Rattle.tree.specs.Bits.{bitsOf}
-use Rattle.tree.specs.Reading.{ok, mapped}
 use Rattle.tree.specs.Syntax.{read}
-use Rattle.tree.proofs.Bits.{length-rest}
-use Rattle.syntax.specs.Data.{«ST2094-10_data»}
-use Rattle.reader.specs.Reading.{summary, summaryIn}
-use Rattle.reader.proofs.Laws.{found-ok, found-no, data-no, data-remains, data-is, data-whole}
+use Rattle.head.specs.Opening.{opening}
+use Rattle.head.proofs.Laws.{opening-ok, opening-no}
+use Rattle.reader.specs.Reading.{refusedReading}
+use Rattle.reader.proofs.Laws.{no-head}
 use borrow.Author.Needs.{needs}
 use Rattle.reader.proofs.read_data.Statement.{statement}
 use Rattle.reader.proofs.read_data.Tie as tie
 
-read-whole-bytes-requires : tie.Need-read-whole-bytes-requires
-read-whole-bytes-requires c κs = search needs
+read-head-requires : tie.Need-read-head-requires
+read-head-requires c κs = search needs
 
-empty-requires : tie.Need-empty-requires
-empty-requires c κs = search needs
+enum-known-why : tie.Need-enum-known-why
+enum-known-why c = search needs
 
--- the record and the bits before the end
-all-read : (c : tie.After-empty) → c .before .before .read-whole-bytes .result .ok ≡ true
-    → mapped summaryIn (read «ST2094-10_data» 0 (bitsOf (c .before .before .before .before .args .input .now))) ≡ ok (summary (c .before .before .read-whole-bytes .result .«record») (c .before .before .read-whole-bytes .result .skipped)) (c .before .before .read-whole-bytes .result .width)
-all-read c h = found-ok (mapped summaryIn (read «ST2094-10_data» 0 (bitsOf (c .before .before .before .before .args .input .now)))) (c .before .before .read-whole-bytes .result) (c .before .before .read-whole-bytes .ensures) h
+refused-requires : tie.Need-refused-requires
+refused-requires c κs = search needs
+
+enum-known-refresh : tie.Need-enum-known-refresh
+enum-known-refresh c = search needs
+
+read-blocks-requires : tie.Need-read-blocks-requires
+read-blocks-requires c κs =
+    let g = c .before .refresh .given in
+    opening-ok (read opening 0 (bitsOf (c .before .before .before .before .before .args .input .now))) (g .0 .0) (g .0 .1 .0) (g .0 .1 .1 .0) (sym (g .1) ∙ c .before .before .before .read-head .ensures)
 
 returns : tie.Need-returns
 returns c =
-    let d = c .before .before .before in
-    let input = d .before .before .before .before .args .input .now in
-    let x = d .before .before .read-whole-bytes .result in
-    let e = all-read d (c .before .before .if1 .taken) in
-    let w = data-whole (bitsOf input) (x .«record») (x .skipped) (x .width) e in
-    rw (d .empty .ensures) (data-remains (bitsOf input) (x .«record») (x .skipped) (x .width) e (λ z. omega (arith, length-rest input (x .width), w)))
-
-cast-bits : tie.Need-cast-bits
-cast-bits c =
-    let d = c .before .before .before .before in
-    let x = d .before .before .read-whole-bytes .result in
-    omega (arith, data-whole (bitsOf (d .before .before .before .before .args .input .now)) (x .«record») (x .skipped) (x .width) (all-read d (c .before .before .before .if1 .taken)))
+    let s = bitsOf (c .before .before .before .before .before .before .args .input .now) in
+    let g = c .before .before .why .given in
+    let f = opening-no (read opening 0 s) (g .0 .0) (sym (g .1) ∙ c .before .before .before .before .read-head .ensures) in
+    c .refused .ensures ∙ ap (λ (q : Refusal). refusedReading (q .number)) (f .2) ∙ no-head s (f .0) (f .1)
 
 returns-2 : tie.Need-returns-2
-returns-2 c =
-    let d = c .before .before .before .before in
-    let input = d .before .before .before .before .args .input .now in
-    let x = d .before .before .read-whole-bytes .result in
-    data-is (bitsOf input) (x .«record») (x .skipped) (x .width) (all-read d (c .before .before .before .if1 .taken)) (omega (arith, length-rest input (x .width)))
-
-returns-3 : tie.Need-returns-3
-returns-3 c =
-    let d = c .before .before in
-    let s = bitsOf (d .before .before .before .before .args .input .now) in
-    let x = d .before .before .read-whole-bytes .result in
-    rw (d .empty .ensures) (data-no s (x .why) (found-no (mapped summaryIn (read «ST2094-10_data» 0 s)) x (d .before .before .read-whole-bytes .ensures) (c .before .if1 .left)))
+returns-2 c = search needs
 
 pub read-data-spec : {M : Type 1} → statement M
-read-data-spec =
-    tie.close
-    (tie.spec read-whole-bytes-requires empty-requires returns cast-bits returns-2 returns-3)
+read-data-spec = tie.close (tie.spec read-head-requires enum-known-why refused-requires enum-known-refresh read-blocks-requires returns returns-2)
