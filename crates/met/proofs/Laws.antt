@@ -17,7 +17,7 @@ use Rattle.record.proofs.Laws.{and-left}
 use Rattle.valid.specs.Valid.{many, targets, among, mayFollow}
 use Rattle.valid.proofs.Laws.{many-more}
 use Rattle.met.specs.declared.Met.{Met}
-use Rattle.met.specs.Met.{mostTargets, noTarget, targetOf, metOf, targetsMet}
+use Rattle.met.specs.Met.{mostTargets, entries, noTarget, targetOf, metOf, targetsMet}
 
 -- ---- the targets that are kept
 
@@ -31,21 +31,21 @@ targets-many (Level2 t s o p c g m ∷ bs) = omega (arith, targets-many bs)
 targets-many (Level5 l r t b ∷ bs) = omega (arith, targets-many bs)
 
 -- of no block, none is kept
-pub met-none : targetsMet [] ≡ replicate 17 noTarget
+pub met-none : targetsMet [] ≡ replicate entries noTarget
 unfolding targets
 met-none = refl
 
--- with what stands behind them they fill the 17 places
-pub length-met : (bs : List Block) → many 2 bs ≤ 17 → length (targetsMet bs) ≡ 17
+-- with what stands behind them they fill the entries
+pub length-met : (bs : List Block) → many 2 bs ≤ entries → length (targetsMet bs) ≡ entries
 length-met bs h =
-    omega (arith, targets-many bs, length-append (targets bs) (replicate (17 - length (targets bs)) noTarget), length-replicate (17 - length (targets bs)) noTarget)
+    omega (arith, targets-many bs, length-append (targets bs) (replicate (entries - length (targets bs)) noTarget), length-replicate (entries - length (targets bs)) noTarget)
 
--- targets in n places, and noTarget behind them
-abbrev within : ℕ → List ℕ → List ℕ
-within n ts = ts ++ replicate (n - length ts) noTarget
+-- targets in n entries, and noTarget behind them
+abbrev inEntries : ℕ → List ℕ → List ℕ
+inEntries n ts = ts ++ replicate (n - length ts) noTarget
 
--- `met-store` with n places for 17: a place goes with each target in the induction
-stored : (n : ℕ) (bs : List Block) (b : Block) → length (targets bs) < n → set (within n (targets bs)) (length (targets bs)) (targetOf b) ≡ within n (targets (bs ++ (b ∷ [])))
+-- `met-store` for any number of entries: one goes with each target in the induction
+stored : (n : ℕ) (bs : List Block) (b : Block) → length (targets bs) < n → set (inEntries n (targets bs)) (length (targets bs)) (targetOf b) ≡ inEntries n (targets (bs ++ (b ∷ [])))
 unfolding targets
 stored zero bs b h = absurd (omega arith)
 stored (suc n) [] Nothing h = simp unary-clauses
@@ -59,7 +59,7 @@ stored (suc n) (Level5 l r u v ∷ bs) b h = stored (suc n) bs b h
 
 -- the next block's target, put behind those that are kept, makes them those of one block more
 pub met-store : (bs : List Block) (b : Block) → many 2 bs ≤ mostTargets → set (targetsMet bs) (many 2 bs) (targetOf b) ≡ targetsMet (bs ++ (b ∷ []))
-met-store bs b h = rw (← targets-many bs) (stored 17 bs b (omega (arith, targets-many bs)))
+met-store bs b h = rw (← targets-many bs) (stored entries bs b (omega (arith, targets-many bs)))
 
 -- ---- what they decide
 
@@ -96,7 +96,7 @@ met-decides bs Nothing h = rw (le-ltb (many 0 bs) 0 (omega arith))
 met-decides bs (Level1 min max avg) h = rw (and-true, room-for-one)
 met-decides bs (Level2 t s o p c g m) h =
     and-where (ltb (many 2 bs) mostTargets) _ _
-    (λ k. let f = ltb-true (many 2 bs) mostTargets k in ap not (found t (targets bs) mostTargets (17 - length (targets bs)) (ltb-true t 4096 (and-left (ltb t 4096) _ h)) (omega (arith, targets-many bs))))
+    (λ k. let f = ltb-true (many 2 bs) mostTargets k in ap not (found t (targets bs) mostTargets (entries - length (targets bs)) (ltb-true t 4096 (and-left (ltb t 4096) _ h)) (omega (arith, targets-many bs))))
 met-decides bs (Level5 l r t b) h = rw (and-true, room-for-one)
 
 -- ---- one block more

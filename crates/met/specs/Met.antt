@@ -1,16 +1,21 @@
 -- What is kept of the blocks that were met: by it alone it is decided whether one more may follow.
-use Prim.Native.Nat.{ℕ, _-_}
+use Prim.Native.Nat.{ℕ, _+_, _-_}
 use mathlib.Core.List.{List, _++_}
 use lib.Dec.{ltb}
 use lib.ListN.{length, replicate}
 use Rattle.record.specs.declared.Block.{Block}
 use Rattle.record.specs.declared.Block.the-variants.{Nothing, Level1, Level2, Level5}
+use Rattle.record.specs.Level.{level}
 use Rattle.valid.specs.Valid.{many, targets}
 use Rattle.met.specs.declared.Met.{Met}
 
--- 01, The data, bit by bit: sixteen blocks of level 2
+-- as many as there may be blocks of level 2
 abbrev pub mostTargets : ℕ
-mostTargets = 16
+mostTargets = level 2 .most
+
+-- the entries in which they are kept: one more, so that a block without a target has a place too
+abbrev pub entries : ℕ
+entries = mostTargets + 1
 
 -- no target_max_PQ
 abbrev pub noTarget : ℕ
@@ -27,6 +32,6 @@ targetOf (Level5 l r t b) = noTarget
 abbrev pub metOf : List Block → Met
 metOf bs = record { one = ltb 0 (many 1 bs); five = ltb 0 (many 5 bs); twos = many 2 bs }
 
--- the target_max_PQ values that were met, and behind them none; one entry more than there may be, so that a block without one has a place too
+-- the target_max_PQ values that were met, and none in the entries behind them
 abbrev pub targetsMet : List Block → List ℕ
-targetsMet bs = targets bs ++ replicate (17 - length (targets bs)) noTarget
+targetsMet bs = targets bs ++ replicate (entries - length (targets bs)) noTarget

@@ -103,7 +103,7 @@ module _ (s : List ℕ) (bytes : (i : ℕ) → getD s i 0 < 256) where
       ∙ ap (λ (d : List Bool). value (take n d)) (drop-drop (at % 8) (8 * (at / 8)) (bitsOf s) ∙ ap (λ (p : ℕ). drop p (bitsOf s)) e)
 
 -- n bits that begin in byte at / 8, and k + 1 bytes where k are too few for them, and else k: as many as the bits touch
-module _ (at n k : ℕ) (more : Bool) (low : n ≤ 8 * k) (high : 8 * k ≤ n + 7) (test : more ≡ ltb (8 * k) (at % 8 + n)) where
+module _ (at n k : ℕ) (more : Bool) (enough : n ≤ 8 * k) (tight : 8 * k ≤ n + 7) (test : more ≡ ltb (8 * k) (at % 8 + n)) where
   touched : (at % 8 + n ≤ 8 * (k + bit more)) × (8 * (k + bit more) ≤ at % 8 + n + 7)
   touched = go more test
     where

@@ -48,10 +48,10 @@ returns-2 c = answered (c .before .before .before .args .b) (c .before .before .
 returns-3 : tie.Need-returns-3
 returns-3 c before e f =
     let s = c .before .before .before .before .before in
-    let within : ltb (s .args .m .twos) mostTargets ≡ true → mostTargets ≤ length (s .args .targets .now) =
+    let long : ltb (s .args .m .twos) mostTargets ≡ true → mostTargets ≤ length (s .args .targets .now) =
     λ k. let w : many 2 before < mostTargets = ltb-true _ _ (rw e at k) in rw f (omega (arith, length-met before (omega arith))) in
     answered (s .args .b) (s .pre)
-    (rw (c .before .before .before .b .given .1) (and-where (ltb (s .args .m .twos) mostTargets) _ _ (λ k. ap not (c .has-target .ensures (within k)))))
+    (rw (c .before .before .before .b .given .1) (and-where (ltb (s .args .m .twos) mostTargets) _ _ (λ k. ap not (c .has-target .ensures (long k)))))
     before e f
 
 returns-4 : tie.Need-returns-4

@@ -1,5 +1,5 @@
 -- `met::including` meets its contract.
-use mathlib.Core.Path.{_≡_, _∙_}
+use mathlib.Core.Path.{_≡_, refl, _∙_}
 use mathlib.Core.List.{List, [], _∷_, _++_}
 use borrow.Author.Needs.{needs}
 use Rattle.record.specs.declared.Block.{Block}
@@ -29,16 +29,16 @@ enum-told-4 : tie.Need-enum-told-4
 enum-told-4 c = search needs
 
 returns : tie.Need-returns
-returns c = answered (c .before .before .args .b) (rw (c .enum-told .given .1))
+returns c = answered (c .before .before .args .b) (rw (c .enum-told .given .1) refl)
 
 returns-2 : tie.Need-returns-2
-returns-2 c = answered (c .before .before .args .b) (rw (c .enum-told2 .given .1))
+returns-2 c = answered (c .before .before .args .b) (rw (c .enum-told2 .given .1) refl)
 
 returns-3 : tie.Need-returns-3
-returns-3 c = answered (c .before .before .before .args .b) (rw (c .before .enum-told3 .given .1))
+returns-3 c = answered (c .before .before .before .args .b) (rw (c .before .enum-told3 .given .1) refl)
 
 returns-4 : tie.Need-returns-4
-returns-4 c = answered (c .before .before .args .b) (rw (c .enum-told4 .given .1))
+returns-4 c = answered (c .before .before .args .b) (rw (c .enum-told4 .given .1) refl)
 
 pub including-spec : {M : Type 1} → statement M
 including-spec =

@@ -1,4 +1,5 @@
 -- `met::target_of` meets its contract.
+use mathlib.Core.Path.{refl}
 use borrow.Author.Needs.{needs}
 use Rattle.met.proofs.target_of.Statement.{statement}
 use Rattle.met.proofs.target_of.Tie as tie
@@ -22,7 +23,7 @@ returns-2 : tie.Need-returns-2
 returns-2 c = search needs
 
 returns-3 : tie.Need-returns-3
-returns-3 c = rw (c .before .b .given .1)
+returns-3 c = rw (c .before .b .given .1) refl
 
 returns-4 : tie.Need-returns-4
 returns-4 c = search needs
