@@ -96,7 +96,7 @@ extern "C" {
 enum {
     PIM_DONE = 0,
     PIM_PAST_END = 1,       /* a bit or byte is needed past the end of the input */
-    PIM_LONG_CODE = 2,      /* a ue(v) code has a 16th zero */
+    PIM_LONG_CODE = 2,      /* a ue(v) code has a 32nd zero: its number would be above 4,294,967,294 */
     PIM_WRAPPER = 3,        /* a wrapper byte differs */
     PIM_IDENTIFIER = 4,     /* app_identifier is not 1 */
     PIM_VERSION = 5,        /* app_version is not 0 */

@@ -130,6 +130,35 @@ static void reserved_blocks(void)
     expect(written == sizeof without_them && memcmp(bytes, without_them, written) == 0, "has no reserved blocks");
 }
 
+/* 4,294,967,294, the largest number of a code, at each place that has one, and a 32nd zero; bare and behind the wrapper. */
+static void big_numbers(void)
+{
+    static const struct {
+        uint8_t data[10];
+        size_t n;
+        uint32_t result;
+        const char *what;
+    } cases[] = {
+        {{0x00, 0x00, 0x00, 0x01, 0xFF, 0xFF, 0xFF, 0xFE}, 8, PIM_IDENTIFIER, "the largest app_identifier"},
+        {{0x40, 0x00, 0x00, 0x00, 0x3F, 0xFF, 0xFF, 0xFF, 0xC0}, 9, PIM_VERSION, "the largest app_version"},
+        {{0x58, 0x00, 0x00, 0x00, 0x0F, 0xFF, 0xFF, 0xFF, 0xF0}, 9, PIM_MANY_BLOCKS, "the largest num_ext_blocks"},
+        {{0x5A, 0x00, 0x00, 0x00, 0x01, 0xFF, 0xFF, 0xFF, 0xFE, 0x02}, 10, PIM_LENGTH, "the largest ext_block_length, of level 1"},
+        {{0x5A, 0x00, 0x00, 0x00, 0x01, 0xFF, 0xFF, 0xFF, 0xFE}, 9, PIM_PAST_END, "and without its level"},
+        {{0x00, 0x00, 0x00, 0x00}, 4, PIM_LONG_CODE, "a 32nd zero"},
+        {{0x00, 0x00}, 2, PIM_PAST_END, "sixteen zeros, and no more"},
+    };
+    static const uint8_t wrapper[] = {0xB5, 0x00, 0x31, 0x47, 0x41, 0x39, 0x34, 0x09};
+    memcpy(bytes, wrapper, sizeof wrapper);
+    for (size_t i = 0; i < sizeof cases / sizeof cases[0]; i++) {
+        memcpy(bytes + 8, cases[i].data, cases[i].n);
+        memset(record, 0x5A, sizeof record);
+        memcpy(old_record, record, sizeof record);
+        expect(pim_read_bare(bytes + 8, cases[i].n, record, PIM_RECORD_LEN, reading, PIM_READING_LEN) == cases[i].result, cases[i].what);
+        expect(pim_read_wrapped(bytes, 8 + cases[i].n, record, PIM_RECORD_LEN, reading, PIM_READING_LEN) == cases[i].result, cases[i].what);
+        expect(facts_are(0, 0) && memcmp(record, old_record, sizeof record) == 0, cases[i].what);
+    }
+}
+
 /* 254 blocks of 1,023 bytes, all of level 3: a code of ten zeros, a one and ten zeros, the level, and a content of ones. */
 static uint8_t longest[PIM_LONGEST_BARE + 1];
 
@@ -307,6 +336,7 @@ int main(void)
     wrong_lengths(pim_read_wrapped, payload, sizeof payload);
     wrong_lengths(pim_read_unit, unit, sizeof unit);
     reserved_blocks();
+    big_numbers();
     longest_payload();
     refused(0, 2, "a refresh flag of 2");
     refused(1, 256, "a count that is no uint8_t");

@@ -1,6 +1,6 @@
-//! 01, "Payloads and their outcome", as 01 lists them where 02's request b does
-//! not change the outcome, payloads with reserved blocks by that request, and
-//! units with the outcome that 02 gives them. Here both implementations are held
+//! 01, "Payloads and their outcome", as 01 lists them where 02's requests b and d
+//! do not change the outcome, payloads with reserved blocks and with big numbers by
+//! those requests, and units with the outcome that 02 gives them. Here both implementations are held
 //! against the papers, not only against each other.
 
 use crate::compare::Compare;
@@ -52,10 +52,11 @@ const fn wrapped(listed: Listed) -> Listed {
     }
 }
 
-const LISTED: [Listed; 50] = [
+const LISTED: [Listed; 58] = [
     refused("", 1),
     refused("00", 1),
-    refused("00 00", 2),
+    // "the input 00 00 now gets 1" (02, d)
+    refused("00 00", 1),
     accepted("50", 8, &[]),
     refused("51", 7),
     accepted("5C", 8, &[1]),
@@ -110,7 +111,7 @@ const LISTED: [Listed; 50] = [
     wrapped(refused("B5 00 31 47 41 39 34 09", 1)),
     // Payloads of the list behind the wrapper.
     wrapped(refused("B5 00 31 47 41 39 34 09 51", 7)),
-    wrapped(refused("B5 00 31 47 41 39 34 09 00 00", 2)),
+    wrapped(refused("B5 00 31 47 41 39 34 09 00 00", 1)),
     wrapped(refused("B5 00 31 47 41 39 34 09 58 50", 1)),
     wrapped(refused("B5 00 31 47 41 39 34 09 5A 80 80", 9)),
     wrapped(skipping(
@@ -150,8 +151,18 @@ const LISTED: [Listed; 50] = [
     refused("5A 00 20 00 18", 1),
     // The level is not there, so that 9 is not yet judged.
     refused("5A 00 20 08", 1),
-    // A 16th zero in the length.
-    refused("5A 00 00 80 00 18", 2),
+    // 02, d: "2 means a 32nd zero", and 2^32 - 2, the largest number, at each of the
+    // four places "now gets 4, 5, 6 or 9"; a length whose level is not there gets 1.
+    refused("00 00 00 00", 2),
+    wrapped(refused("B5 00 31 47 41 39 34 09 00 00 00 00", 2)),
+    refused("5A 00 00 00 00", 2),
+    refused("00 00 00 01 FF FF FF FE", 4),
+    refused("40 00 00 00 3F FF FF FF C0", 5),
+    refused("58 00 00 00 0F FF FF FF F0", 6),
+    refused("5A 00 00 00 01 FF FF FF FE 02", 9),
+    refused("5A 00 00 00 01 FF FF FF FE", 1),
+    // 65,541 is no 5, though it ends like it in 16 bits; the example's level 1 block.
+    refused("5A 00 00 80 03 00 80 06 00 20 00 00", 9),
 ];
 
 fn from_hex(text: &str) -> Vec<u8> {

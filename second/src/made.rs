@@ -207,30 +207,35 @@ pub fn point_record(rng: &mut Rng) -> Record {
 
 // --------------------------------------------------------------- payloads
 
+/// The largest number of a ue(v) code: 31 zeros, a one, 31 ones.
+pub const LARGEST: u32 = u32::MAX - 1;
+
 /// A ue(v) code by its parts: `zeros` zeros, a one, then as many bits of
-/// `rest`.
+/// `rest`, at most 64.
 #[derive(Clone, Copy)]
 pub struct Code {
     pub zeros: u32,
-    rest: u32,
+    pub rest: u64,
 }
 
+/// The code of a number up to LARGEST.
 pub fn ue(number: u32) -> Code {
+    let next = number as u64 + 1;
     let mut zeros = 0;
-    while number + 1 >= 2 << zeros {
+    while next >= 2 << zeros {
         zeros += 1;
     }
     Code {
         zeros,
-        rest: number + 1 - (1 << zeros),
+        rest: next - (1 << zeros),
     }
 }
 
-/// A code with a 16th zero.
+/// A code with a 32nd zero.
 fn long_code(rng: &mut Rng) -> Code {
     Code {
-        zeros: rng.pick(&[16, 16, 16, 17, 20, 24, 31]),
-        rest: rng.next() as u32,
+        zeros: rng.pick(&[32, 32, 32, 33, 36, 40, 63, 64]),
+        rest: rng.next(),
     }
 }
 
@@ -247,8 +252,8 @@ pub struct BlockPlan {
 
 #[derive(Clone)]
 pub struct Plan {
-    app_identifier: Code,
-    app_version: Code,
+    pub app_identifier: Code,
+    pub app_version: Code,
     refresh: bool,
     pub num_ext_blocks: Option<Code>,
     /// Makes one of the zero bits before the first block a one.
@@ -271,8 +276,18 @@ pub fn reserved(level: u32, content: &[u8]) -> BlockPlan {
     }
 }
 
+/// The one length of a known level.
+pub fn own_length(level: u32) -> Option<u32> {
+    match level {
+        1 => Some(5),
+        2 => Some(11),
+        5 => Some(7),
+        _ => None,
+    }
+}
+
 pub fn is_reserved(level: u32) -> bool {
-    level != 1 && level != 2 && level != 5
+    own_length(level).is_none()
 }
 
 pub fn block_plan(block: &Block) -> BlockPlan {
@@ -367,9 +382,9 @@ impl BitString {
         self.bits += 1;
     }
 
-    fn number(&mut self, value: u32, width: u32) {
+    fn number(&mut self, value: u64, width: u32) {
         for i in (0..width).rev() {
-            self.bit((value >> i) & 1);
+            self.bit(((value >> i) & 1) as u32);
         }
     }
 
@@ -412,9 +427,9 @@ pub fn bytes_of(plan: &Plan) -> (Vec<u8>, usize, usize) {
     let first_zeros = string.bits - before_first;
     for block in &plan.blocks {
         string.code(block.length);
-        string.number(block.level, 8);
+        string.number(block.level as u64, 8);
         for &(value, width) in &block.fields {
-            string.number(value, width);
+            string.number(value as u64, width);
         }
         string.zeros(block.zeros, block.one);
     }
@@ -544,17 +559,24 @@ impl Kind {
 /// A length that is not the level's. Lengths of the other levels, their
 /// neighbours and the ends of the code come more often.
 fn wrong_length(rng: &mut Rng, level: u32) -> u32 {
-    let right = match level {
-        1 => 5,
-        2 => 11,
-        _ => 7,
-    };
+    let right = own_length(level).unwrap_or(7);
     loop {
         let length = match rng.below(4) {
             0 => rng.pick(&[5, 7, 11]),
             1 => rng.below(24) as u32,
-            2 => rng.pick(&[0, right - 1, right + 1, 255, 256 + right, 1023, 65_534]),
-            _ => rng.below(65_535) as u32,
+            2 => rng.pick(&[
+                0,
+                right - 1,
+                right + 1,
+                255,
+                256 + right,
+                1023,
+                65_534,
+                65_536 + right,
+                (1 << 31) + right,
+                LARGEST,
+            ]),
+            _ => any_number(rng),
         };
         if length != right {
             return length;
@@ -632,18 +654,35 @@ fn spoil_order(rng: &mut Rng, block: &mut BlockPlan) {
     }
 }
 
-/// A number of ue(v) codes: small, or with many bits, up to 65,534.
+/// A number of ue(v) codes: small, one that ends like a small one, at the ends of
+/// 8, 16, 31 and 32 bits, or of any width, up to LARGEST.
 fn any_number(rng: &mut Rng) -> u32 {
     match rng.below(4) {
         0 => rng.below(8) as u32,
-        1 => rng.pick(&[254, 255, 256, 257, 32_766, 32_767, 65_533, 65_534]),
-        _ => (1u32 << rng.below(16)) - 1 + rng.below(1 << 15) as u32 % (1 << rng.below(16)),
+        1 => {
+            let high = rng.pick(&[1 << 8, 1 << 16, 1 << 24, 1 << 31]);
+            high + rng.below(12) as u32
+        }
+        2 => rng.pick(&[
+            254,
+            255,
+            32_766,
+            32_767,
+            65_533,
+            65_534,
+            65_535,
+            (1 << 31) - 2,
+            (1 << 31) - 1,
+            LARGEST - 1,
+            LARGEST,
+        ]),
+        _ => (rng.next() as u32 >> rng.below(32)).min(LARGEST),
     }
 }
 
 fn wrong_number(rng: &mut Rng, right: u32) -> u32 {
     loop {
-        let number = any_number(rng).min(65_534);
+        let number = any_number(rng);
         if number != right {
             return number;
         }
@@ -840,8 +879,8 @@ pub fn payload(kind: Kind, rng: &mut Rng) -> Vec<u8> {
             let at = rng.pick(&places);
             made.blocks[at].length = ue(match rng.below(3) {
                 0 => 1024,
-                1 => rng.pick(&[1025, 2046, 2047, 65_534, 32_767, 1024 + 256]),
-                _ => any_number(rng).clamp(1024, 65_534),
+                1 => rng.pick(&[1025, 2046, 2047, 65_534, 65_536, 1024 + 256]),
+                _ => any_number(rng).max(1024),
             });
             if rng.one_in(2) {
                 made.blocks.truncate(at + 1);
@@ -889,7 +928,7 @@ pub fn payload(kind: Kind, rng: &mut Rng) -> Vec<u8> {
             let number = match rng.below(3) {
                 0 => 255,
                 1 => 255 + rng.below(12) as u32,
-                _ => any_number(rng).clamp(255, 65_534),
+                _ => any_number(rng).max(255),
             };
             made.num_ext_blocks = Some(ue(number));
             if kind == Kind::TooManyBlocksAndZeroBit {
@@ -900,7 +939,7 @@ pub fn payload(kind: Kind, rng: &mut Rng) -> Vec<u8> {
         Kind::LongCode => bytes_of(&with_long_code(rng)).0,
         Kind::LongCodeCut => {
             let mut bytes = bytes_of(&with_long_code(rng)).0;
-            bytes.truncate(rng.below(bytes.len().min(8)) + 1);
+            bytes.truncate(rng.below(bytes.len().min(16)) + 1);
             bytes
         }
         Kind::BlockMissing => {

@@ -9,6 +9,7 @@
 #![no_main]
 
 mod bench;
+mod codes;
 mod compare;
 mod listed;
 mod made;
@@ -104,17 +105,19 @@ fn compare_all(rounds: u64) -> c_int {
         let payloads = runs::made_payloads(&mut compare, round);
         let flips = runs::bit_flips(&mut compare, round);
         let reserved = reserved::payloads(&mut compare, round);
+        let codes = codes::payloads(&mut compare, round);
         let writes = runs::made_writes(&mut compare, round);
         let blocks = runs::shader_numbers(&mut compare, round);
         let placings = runs::placings(&mut compare, round);
         println!(
             "round {}: {} made inputs ({} payloads, {} bit flips, {} payloads with reserved blocks, \
-             {} writes, {} blocks, {} placings)",
+             {} with numbers of codes, {} writes, {} blocks, {} placings)",
             round,
-            payloads + flips + reserved + writes + blocks + placings,
+            payloads + flips + reserved + codes + writes + blocks + placings,
             payloads,
             flips,
             reserved,
+            codes,
             writes,
             blocks,
             placings

@@ -1,6 +1,7 @@
-//! 01, "The data, bit by bit" and "The wrapper", with 02's request b: blocks of
-//! reserved levels are passed over. Every step that can fail answers with the
-//! refusal number, and the first failure decides.
+//! 01, "The data, bit by bit" and "The wrapper", with 02's requests b, blocks of
+//! reserved levels are passed over, and d, big numbers are read and judged where
+//! they stand. Every step that can fail answers with the refusal number, and the
+//! first failure decides.
 
 use crate::record::{repeats, Block, Record, EMPTY};
 
@@ -65,11 +66,12 @@ impl Bits<'_> {
     }
 
     /// ue(v): k zeros, a one, then k bits; the number is 2^k - 1 plus those bits.
+    /// "2 means a 32nd zero" (02, d).
     fn ue(&mut self) -> Result<u32, u32> {
         let mut k = 0;
         while self.bit()? == 0 {
             k += 1;
-            if k == 16 {
+            if k == 32 {
                 return Err(2);
             }
         }

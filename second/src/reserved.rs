@@ -3,7 +3,8 @@
 
 use crate::compare::Compare;
 use crate::made::{block_plan, blocks, bytes_of, plan, random_bytes, reserved, ue, Plan, Rng};
-use crate::made::{holding, is_reserved, plan_of, put_reserved, reserved_level, BlockPlan, Kind};
+use crate::made::{holding, is_reserved, own_length, plan_of, put_reserved, reserved_level};
+use crate::made::{BlockPlan, Kind};
 use crate::reader::WRAPPER;
 use crate::record::{flat, Block, Record, FLAT, LEVEL_2_BLOCKS};
 use crate::runs::{expect, rng};
@@ -38,7 +39,7 @@ impl Content {
 }
 
 /// Reads bare and behind the wrapper: a refusal with this number.
-fn refused(compare: &mut Compare, data: &[u8], number: u32) -> u64 {
+pub fn refused(compare: &mut Compare, data: &[u8], number: u32) -> u64 {
     let answer = compare.read(false, data);
     expect(compare, data, Some(number), answer);
     let input = [&WRAPPER[..], data].concat();
@@ -49,7 +50,7 @@ fn refused(compare: &mut Compare, data: &[u8], number: u32) -> u64 {
 
 /// Reads bare and behind the wrapper: this record, so many blocks passed over, and
 /// every bit of the data read.
-fn accepted(compare: &mut Compare, data: &[u8], record: &Record, skipped: usize) -> u64 {
+pub fn accepted(compare: &mut Compare, data: &[u8], record: &Record, skipped: usize) -> u64 {
     let wrapped = [&WRAPPER[..], data].concat();
     for (is_wrapped, input) in [(false, data), (true, &wrapped[..])] {
         let number = compare.read(is_wrapped, input);
@@ -73,7 +74,7 @@ fn accepted(compare: &mut Compare, data: &[u8], record: &Record, skipped: usize)
 }
 
 /// A plan of any blocks.
-fn plan_with(list: Vec<BlockPlan>) -> Plan {
+pub fn plan_with(list: Vec<BlockPlan>) -> Plan {
     let mut made = plan(&[]);
     made.num_ext_blocks = Some(ue(list.len() as u32));
     made.blocks = list;
@@ -105,7 +106,7 @@ fn block_bits(block: &BlockPlan) -> usize {
 }
 
 /// The bits of the plan before its block of this place.
-fn bits_before(made: &Plan, at: usize) -> usize {
+pub fn bits_before(made: &Plan, at: usize) -> usize {
     let mut head = made.clone();
     head.blocks.clear();
     let blocks: usize = made.blocks[..at].iter().map(block_bits).sum();
@@ -127,17 +128,10 @@ fn levels_and_lengths(compare: &mut Compare, round: u64) -> u64 {
             let block = reserved(level, &content);
             let (made, record) = at_position(&mut rng, (turn + length) % 8, block);
             let data = bytes_of(&made).0;
-            let own_length = match level {
-                1 => 5,
-                2 => 11,
-                _ => 7,
-            };
-            cases += if is_reserved(level) {
-                accepted(compare, &data, &record, 1)
-            } else if length != own_length {
-                refused(compare, &data, 9)
-            } else {
-                0
+            cases += match own_length(level) {
+                None => accepted(compare, &data, &record, 1),
+                Some(own) if own as usize != length => refused(compare, &data, 9),
+                Some(_) => 0,
             };
         }
     }

@@ -44,16 +44,17 @@ impl Window<'_> {
         8 * self.input.len() - self.read
     }
 
-    /// ue(v), of at most 15 zeros. A missing bit reads as a zero, so that what is
-    /// left tells a code that is cut off from one with a zero too many.
+    /// ue(v). A code of up to 28 zeros has 57 bits at most and lies in the window.
     #[inline(always)]
     fn ue(&mut self) -> Result<u32, u32> {
         let bits = self.next();
         let zeros = bits.leading_zeros() as usize;
-        if zeros > 15 {
-            return Err(if self.left() < 16 { 1 } else { 2 });
-        }
         let width = 2 * zeros + 1;
+        if zeros > 28 {
+            let number = long_ue(self.input, self.read, zeros)?;
+            self.read += width;
+            return Ok(number);
+        }
         if self.left() < width {
             return Err(1);
         }
@@ -78,6 +79,24 @@ impl Window<'_> {
     fn zeros_to_byte(&mut self) -> Result<(), u32> {
         self.zeros(self.read.wrapping_neg() % 8)
     }
+}
+
+/// The same of a code that begins with more than 28 zeros, of which 31 at most may be
+/// its own: a second window begins at the first one. A missing bit reads as a zero,
+/// so that what is left tells a code that is cut off from one with a zero too many.
+/// It gets the window's parts, so that the window itself stays in registers.
+#[cold]
+#[inline(never)]
+fn long_ue(input: &[u8], read: usize, zeros: usize) -> Result<u32, u32> {
+    let mut window = Window { input, read };
+    if zeros > 31 {
+        return Err(if window.left() < 32 { 1 } else { 2 });
+    }
+    if window.left() < 2 * zeros + 1 {
+        return Err(1);
+    }
+    window.read += zeros;
+    Ok((window.next() >> (63 - zeros)) as u32 - 1)
 }
 
 /// The n bits of a window that stand behind its first `skip`.

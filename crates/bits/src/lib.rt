@@ -9,8 +9,8 @@ ghost use Rattle.tree.specs.Reading.{u, ue, signedOf};
 ghost use Rattle.tree.specs.Syntax.{read, zeroBits};
 ghost use Rattle.bits.specs.Answer.{nameless, numberOf, spanOf, refusedNumber, refusedLead, Leads, Begun};
 
-// Ours: a ue(v) code has at most 15 zeros.
-pub const MOST_ZEROS: usize = 15;
+// H.265: a ue(v) code has at most 31 zeros, so its number is at most 2^32 - 2.
+pub const MOST_ZEROS: usize = 31;
 
 // A number that was read and how many bits it took, or why there is none.
 pub enum Number {

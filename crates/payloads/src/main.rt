@@ -1,5 +1,6 @@
 // Reads every payload that document 01 gives, the ms_weight examples among them, bare and behind the wrapper, and prints for each its
-// name and its listing. Two of them, 58 50 and 5A 81 80, have another outcome since request b.
+// name and its listing. Two of them, 58 50 and 5A 81 80, have another outcome since request b, and 00 00 since request d, whose 00 00 00 00
+// stands beside it.
 use reader::Reading;
 
 const OUT: i32 = libc::STDOUT_FILENO;
@@ -28,6 +29,10 @@ fn starred() {
     both(b"no bytes", b"\xB5\x00\x31\x47\x41\x39\x34\x09");
     both(b"00", b"\xB5\x00\x31\x47\x41\x39\x34\x09\x00");
     both(b"00 00", b"\xB5\x00\x31\x47\x41\x39\x34\x09\x00\x00");
+    both(
+        b"00 00 00 00",
+        b"\xB5\x00\x31\x47\x41\x39\x34\x09\x00\x00\x00\x00",
+    );
     both(b"50", b"\xB5\x00\x31\x47\x41\x39\x34\x09\x50");
     both(b"51", b"\xB5\x00\x31\x47\x41\x39\x34\x09\x51");
     both(b"5C", b"\xB5\x00\x31\x47\x41\x39\x34\x09\x5C");

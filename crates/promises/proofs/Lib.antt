@@ -1,5 +1,6 @@
 pub mod Reading
 pub mod Reasons
+pub mod Numbers
 pub mod Writing
 pub mod Units
 pub mod Starred

@@ -28,7 +28,7 @@ fault-of : (o : Out Name Data) → (readingOf o .result ≡ 0 → ⊥) → (f : 
 fault-of (ok d n) h = absurd (h refl)
 fault-of (no f) h = (f, refl, refl)
 
-number-of : {o : Out Name Data} (f : Fault Name) → o ≡ no f → readingOf o .result ≡ numberIn f
+pub number-of : {o : Out Name Data} (f : Fault Name) → o ≡ no f → readingOf o .result ≡ numberIn f
 number-of f e = ap (λ (o : Out Name Data). readingOf o .result) e
 
 not-done : {n : ℕ} (k : ℕ) → 0 < k → n ≡ k → n ≡ 0 → ⊥
@@ -43,7 +43,7 @@ module _ (told : List Bool → Out Name Data) where
   fault-in s h = fault-of (told (bitsOf s)) h
 
   -- a number above 0 is that of a fault
-  fault-with : (k : ℕ) → 0 < k → (s : List ℕ) → resultOf s ≡ k → (f : Fault Name) × (told (bitsOf s) ≡ no f) × (numberIn f ≡ k)
+  pub fault-with : (k : ℕ) → 0 < k → (s : List ℕ) → resultOf s ≡ k → (f : Fault Name) × (told (bitsOf s) ≡ no f) × (numberIn f ≡ k)
   fault-with k h s e = let x = fault-in s (not-done k h e) in (x .0, x .1, sym (x .2) ∙ e)
 
   stands : ((s t : List ℕ) (f : Fault Name) → told (bitsOf s) ≡ no f → (numberIn f ≡ pastEnd → ⊥) → (g : Fault Name) × (told (bitsOf (s ++ t)) ≡ no g) × ToldAlike f g)

@@ -8,7 +8,7 @@ use Rattle.record.specs.Name.{Name}
 use Rattle.record.specs.Blocks.{emptyRecord}
 use Rattle.syntax.specs.Data.{Data, bareData}
 use Rattle.syntax.specs.Wrapper.{wrappedData}
-use Rattle.syntax.specs.Limits.{Outcome, accepted, refused, outcomeOf, Case, limits, longPayloads, manyBlocks, starred, wrappedCases}
+use Rattle.syntax.specs.Limits.{Outcome, accepted, refused, outcomeOf, Case, limits, codeNumbers, longPayloads, manyBlocks, starred, wrappedCases}
 use Rattle.syntax.proofs.Limits as tree
 use Rattle.reader.specs.declared.Reading.{Reading}
 use Rattle.reader.specs.Reading.{readingOf, readBare}
@@ -43,13 +43,17 @@ module _ (l : List Case) where
   wrapped-cases : map tree.foundWrapped l ≡ map tree.expected l → map wrapped l ≡ map expected l
   wrapped-cases e = each wrapped answerFor tree.foundWrapped (λ c. answered (wrappedData (bitsOf (c .bytes)))) l ∙ ap (map answerFor) e ∙ sym (each expected answerFor tree.expected (λ c. refl) l)
 
--- each starred payload gets the outcome that document 01 gives, and two of them that of 02, b
+-- each starred payload gets the outcome that document 01 gives, two of them that of 02, b, and one that of 02, d
 pub the-starred-cases : map bare starred ≡ map expected starred
 the-starred-cases = bare-cases starred tree.the-starred-cases
 
 -- each limit on both sides, each pair in the order of refusals, each field
 pub the-limits-and-the-order : map bare limits ≡ map expected limits
 the-limits-and-the-order = bare-cases limits tree.the-limits-and-the-order
+
+-- 02, d: numbers of ue(v) at both ends of each range and beyond, at each of the four places
+pub each-place-checks-its-own-range : map bare codeNumbers ≡ map expected codeNumbers
+each-place-checks-its-own-range = bare-cases codeNumbers tree.each-place-checks-its-own-range
 
 pub sixteen-of-level-2-and-no-more : map bare longPayloads ≡ map expected longPayloads
 sixteen-of-level-2-and-no-more = bare-cases longPayloads tree.sixteen-of-level-2-and-no-more

@@ -1,3 +1,4 @@
 pub mod Joins
 pub mod Units
 pub mod Payloads
+pub mod Numbers

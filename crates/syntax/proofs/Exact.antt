@@ -1,5 +1,5 @@
 -- Exactness: the table is followed by exactly the elements of well-formed data, and an input is accepted exactly if it is the payload of such.
-use Prim.Native.Nat.{ℕ, zero, suc, _+_, _/_, _%_, _≤_}
+use Prim.Native.Nat.{ℕ, zero, suc, _+_, _/_, _%_, _^_, _≤_}
 use mathlib.Core.Path.{_≡_, refl, ap, sym, _∙_}
 use mathlib.Core.List.{List, [], _∷_, _++_, append-nil, append-assoc}
 use mathlib.Core.Bool.{Bool, true, false, cond}
@@ -12,7 +12,7 @@ use lib.IntN.{ℤ, pos, negsuc}
 use Rattle.refusals.specs.Refusals.{wrongIdentifier, wrongVersion, tooManyBlocks}
 use Rattle.tree.specs.Bits.{bit, bitsOf, Bytes}
 use Rattle.tree.specs.Reading.{between, allows, ok, toBoundary}
-use Rattle.tree.specs.Coding.{unsigned, holds, variable, fixed, widthIn, natural}
+use Rattle.tree.specs.Coding.{mostZeros, unsigned, holds, variable, fixed, widthIn, natural}
 use Rattle.tree.specs.Syntax.{Syntax, done, any, ranged, alignment, _>>=_}
 use Rattle.tree.specs.Meaning.{Element, element, zeroBit, sumOfWidths, allBits, complete, Follow, Spells}
 use Rattle.tree.proofs.Truth.{clash}
@@ -50,7 +50,7 @@ afterIdentifier a = ranged «app_version» variable wrongVersion (pos 0) (pos 0)
 abbrev version : ℕ → ℕ
 version at = at + widthIn variable (pos 1) + widthIn variable (pos 0)
 
-head-takes : (flag : Bool) (n : ℕ) → Announced (announced flag n) → (at : ℕ) → Follow head at (headElements flag n) (complete (announced flag n))
+pub head-takes : (flag : Bool) (n : ℕ) → Announced (announced flag n) → (at : ℕ) → Follow head at (headElements flag n) (complete (announced flag n))
 unfolding head blockCount Follow
 head-takes true n a at =
     let few = a .few in
@@ -58,7 +58,7 @@ head-takes true n a at =
     (ranged-together «app_version» variable wrongVersion (pos 0) (pos 0) afterVersion (at + widthIn variable (pos 1)) (pos 0) _ (complete (announced true n)) refl refl
     (any-together «metadata_refresh_flag» (fixed (unsigned 1)) afterFlag (version at) (pos 1) _ (complete (announced true n)) refl
     (ranged-together «num_ext_blocks» variable tooManyBlocks (pos 0) (pos mostAnnounced) (λ m. done (announced true (natural m))) (version at + 1) (pos n) [] (complete (announced true n))
-    (lt-ltb (n + 1) 65536 (omega arith)) (rw (le-leb 0 n (omega arith), le-leb n mostAnnounced few) refl) (refl, refl))))
+    (lt-ltb (n + 1) (2 ^ suc mostZeros) (omega arith)) (rw (le-leb 0 n (omega arith), le-leb n mostAnnounced few) refl) (refl, refl))))
 head-takes false n a at =
     let z : n ≡ 0 = a .flag refl in
     rw z
@@ -114,7 +114,7 @@ gap at = replicate (toBoundary at) (zeroBit «dm_alignment_zero_bit»)
 abbrev pub firstGap : Bool → ℕ → List (Element Name)
 firstGap none at = cond none [] (gap at)
 
-first-takes : (none : Bool) (at : ℕ) → Follow (cond none (done tt) (alignment «dm_alignment_zero_bit»)) at (firstGap none at) (complete tt)
+pub first-takes : (none : Bool) (at : ℕ) → Follow (cond none (done tt) (alignment «dm_alignment_zero_bit»)) at (firstGap none at) (complete tt)
 unfolding Follow
 first-takes true at = (refl, refl)
 first-takes false at = zeros-take «dm_alignment_zero_bit» (toBoundary at) at

@@ -107,6 +107,15 @@ module _ (start : ℕ) (before : List Block) where
 abbrev pub behind : ℕ → List Block → ℕ → Item → Syntax Name (List Item)
 behind start before n i = mayFollowRules start before i >>= λ o. blocksAfter (before ++ keptIn (i ∷ [])) n >>= λ is. done (i ∷ is)
 
+-- a block that fits and may follow, and what follows it
+pub one-block-more : (n : ℕ) (before : List Block) (i : Item) (at : ℕ) (es : List (Element Name)) (x : Next Name (List Item)) → itemFits i && itemFollows before i ≡ true
+    → Follow (blocksAfter (before ++ keptIn (i ∷ [])) n >>= λ js. done (i ∷ js)) (at + sumOfWidths (itemElements i)) es x → Follow (blocksAfter before (suc n)) at (itemElements i ++ es) x
+unfolding blocksAfter Follow _>>=_
+one-block-more n before i at es x h k =
+    let own = and-left (itemFits i) (itemFollows before i) h in
+    together block (behind at before n) at (itemElements i) es i x (block-takes i own at)
+    (rules-take at before (λ o. blocksAfter (before ++ keptIn (i ∷ [])) n >>= λ js. done (i ∷ js)) (at + sumOfWidths (itemElements i)) es i x own (and-right (itemFits i) (itemFollows before i) h) k)
+
 pub blocks-take : (n : ℕ) (before : List Block) (is : List Item) → length is ≡ n → allFit before is ≡ true → (at : ℕ) → Follow (blocksAfter before n) at (itemsElements is) (complete is)
 unfolding blocksAfter itemsElements allFit Follow _>>=_
 blocks-take zero before [] l h at = (refl, refl)
@@ -114,15 +123,10 @@ blocks-take zero before (i ∷ is) l h at = absurd (omega arith)
 blocks-take (suc n) before [] l h at = absurd (omega arith)
 blocks-take (suc n) before (i ∷ is) l h at =
     let after = before ++ keptIn (i ∷ []) in
-    let f = and-left (itemFits i && itemFollows before i) (allFit after is) h in
-    let r = and-right (itemFits i && itemFollows before i) (allFit after is) h in
-    let own = and-left (itemFits i) (itemFollows before i) f in
     let there = at + sumOfWidths (itemElements i) in
-    let k = blocks-take n after is (omega arith) r there in
+    let k = blocks-take n after is (omega arith) (and-right (itemFits i && itemFollows before i) (allFit after is) h) there in
     let t = together (blocksAfter after n) (λ js. done (i ∷ js)) there (itemsElements is) [] is (complete (i ∷ is)) k (refl, refl) in
-    together block (behind at before n) at (itemElements i) (itemsElements is) i (complete (i ∷ is)) (block-takes i own at)
-    (rules-take at before (λ o. blocksAfter after n >>= λ js. done (i ∷ js)) there (itemsElements is) i (complete (i ∷ is)) own (and-right (itemFits i) (itemFollows before i) f)
-    (rw (append-nil (itemsElements is)) at t))
+    one-block-more n before i at (itemsElements is) (complete (i ∷ is)) (and-left (itemFits i && itemFollows before i) (allFit after is) h) (rw (append-nil (itemsElements is)) at t)
 
 pub blocks-only : (n : ℕ) (before : List Block) (at : ℕ) (es : List (Element Name)) (is : List Item) → Follow (blocksAfter before n) at es (complete is)
     → (length is ≡ n) × (allFit before is ≡ true) × (es ≡ itemsElements is)

@@ -7,5 +7,6 @@ pub mod Records
 pub mod Largest
 pub mod Reasons
 pub mod Stands
+pub mod Numbers
 pub mod Wrapped
 pub mod Steps

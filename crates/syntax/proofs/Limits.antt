@@ -9,7 +9,7 @@ use Rattle.tree.specs.Coding.{totalWidth}
 use Rattle.valid.specs.Valid.{many, targets}
 use Rattle.syntax.specs.Data.{blockCount, head, content, reservedContent, wholeBlock, block, keptIn, passedIn, blocksAfter, «ST2094-10_data», bareData}
 use Rattle.syntax.specs.Wrapper.{wrappedData}
-use Rattle.syntax.specs.Limits.{Outcome, outcomeOf, Case, limits, longPayloads, manyBlocks, starred, wrappedCases}
+use Rattle.syntax.specs.Limits.{Outcome, outcomeOf, Case, limits, codeNumbers, longPayloads, manyBlocks, starred, wrappedCases}
 
 abbrev pub found : Case → Outcome
 found c = outcomeOf (bareData (bitsOf (c .bytes)))
@@ -21,6 +21,11 @@ pub the-limits-and-the-order : map found limits ≡ map expected limits
 unfolding bitsOf code valueFrom u i ue zerosThenOne amongZ totalWidth read _>>=_ row zeroBits readWhole many targets blockCount head content reservedContent wholeBlock block keptIn passedIn blocksAfter «ST2094-10_data»
 the-limits-and-the-order = refl
 
+-- 02, d
+pub each-place-checks-its-own-range : map found codeNumbers ≡ map expected codeNumbers
+unfolding bitsOf code valueFrom u i ue zerosThenOne amongZ totalWidth read _>>=_ row zeroBits readWhole many targets blockCount head content reservedContent wholeBlock block keptIn passedIn blocksAfter «ST2094-10_data»
+each-place-checks-its-own-range = refl
+
 pub sixteen-of-level-2-and-no-more : map found longPayloads ≡ map expected longPayloads
 unfolding bitsOf code valueFrom u i ue zerosThenOne amongZ totalWidth read _>>=_ row zeroBits readWhole many targets blockCount head content reservedContent wholeBlock block keptIn passedIn blocksAfter «ST2094-10_data»
 sixteen-of-level-2-and-no-more = refl
@@ -29,7 +34,7 @@ pub two-hundred-and-fifty-four-blocks : map found manyBlocks ≡ map expected ma
 unfolding bitsOf code valueFrom u i ue zerosThenOne amongZ totalWidth read _>>=_ row zeroBits readWhole many targets blockCount head content reservedContent wholeBlock block keptIn passedIn blocksAfter «ST2094-10_data»
 two-hundred-and-fifty-four-blocks = refl
 
--- each starred payload gets the outcome that document 01 gives, and two of them that of 02, b
+-- each starred payload gets the outcome that document 01 gives, two of them that of 02, b, and one that of 02, d
 pub the-starred-cases : map found starred ≡ map expected starred
 unfolding bitsOf code valueFrom u i ue zerosThenOne amongZ totalWidth read _>>=_ row zeroBits readWhole many targets blockCount head content reservedContent wholeBlock block keptIn passedIn blocksAfter «ST2094-10_data»
 the-starred-cases = refl

@@ -64,8 +64,8 @@ a-payload-with-anything-behind-gets-12 d w t h =
     ap bareData (bits-append (dataPayload d) t ∙ ap (λ (bits : List Bool). bits ++ bitsOf t) (bits-pack (allBits (dataElements d)) l))
     ∙ generic.anything-behind «end» «ST2094-10_data» (dataElements d) d (bitsOf t) (data-spells .takes d w) (omega (arith, length-bits t))
 
--- a rule has neither number 1 nor number 12
-rule-number : (at : ℕ) (es : List (Element Name)) (r : Rule Name) (n : ℕ) → Speaks at es r → r .number ≡ n → among n ruleNumbers ≡ true
+-- a rule has one of these numbers, and so neither 1 nor 2 nor 12
+pub rule-number : (at : ℕ) (es : List (Element Name)) (r : Rule Name) (n : ℕ) → Speaks at es r → r .number ≡ n → among n ruleNumbers ≡ true
 rule-number at es r n k e = rw e at (listed (k .earlier) (k .theirs) r (k .about))
 
 -- and only such an input does

@@ -1,4 +1,4 @@
--- Codes on both sides of each limit, by hand from 01 and H.265: what definition and code could get wrong together.
+-- Codes on both sides of each limit, by hand from 01, 02 and H.265: what definition and code could get wrong together.
 use Prim.Native.Nat.{ℕ}
 use mathlib.Core.Path.{_≡_, refl}
 use mathlib.Core.List.{List, [], _∷_, _++_, map}
@@ -16,12 +16,18 @@ reads d s = coded d tt 0 s
 abbrev zeros : ℕ → List Bool
 zeros n = replicate n false
 
--- ue(v): 1 is 0, 010 is 1, 011 is 2, 00100 is 3, 00111 is 6; 15 zeros are read, a 16th is one too many, and what is missing is missing
+abbrev ones : ℕ → List Bool
+ones n = replicate n true
+
+-- ue(v): 1 is 0, 010 is 1, 011 is 2, 00100 is 3, 00111 is 6; 15, 16 and 31 zeros are read, up to 2^32 − 2; a 32nd is one too many, whole or
+-- not; and what is missing is missing
 pub ue-at-the-edges : map (reads variable)
     ((true ∷ []) ∷ (false ∷ true ∷ false ∷ []) ∷ (false ∷ true ∷ true ∷ []) ∷ (false ∷ false ∷ true ∷ false ∷ false ∷ []) ∷ (false ∷ false ∷ true ∷ true ∷ true ∷ [])
-    ∷ (zeros 15 ++ (true ∷ zeros 15)) ∷ (zeros 16 ++ (true ∷ zeros 16)) ∷ zeros 16 ∷ zeros 15 ∷ (zeros 15 ++ (true ∷ zeros 14)) ∷ [] ∷ [])
+    ∷ (zeros 15 ++ (true ∷ ones 15)) ∷ (zeros 16 ++ (true ∷ zeros 16)) ∷ (zeros 31 ++ (true ∷ zeros 31)) ∷ (zeros 31 ++ (true ∷ ones 31))
+    ∷ (zeros 32 ++ (true ∷ zeros 32)) ∷ zeros 32 ∷ zeros 31 ∷ (zeros 31 ++ (true ∷ zeros 30)) ∷ [] ∷ [])
     ≡ ok (pos 0) 1 ∷ ok (pos 1) 3 ∷ ok (pos 2) 3 ∷ ok (pos 3) 5 ∷ ok (pos 6) 5
-    ∷ ok (pos 32767) 31 ∷ no (overlong 0 tt) ∷ no (overlong 0 tt) ∷ no (cutOff 0 tt) ∷ no (cutOff 0 tt) ∷ no (cutOff 0 tt) ∷ []
+    ∷ ok (pos 65534) 31 ∷ ok (pos 65535) 33 ∷ ok (pos 2147483647) 63 ∷ ok (pos 4294967294) 63
+    ∷ no (overlong 0 tt) ∷ no (overlong 0 tt) ∷ no (cutOff 0 tt) ∷ no (cutOff 0 tt) ∷ no (cutOff 0 tt) ∷ []
 unfolding valueFrom u ue zerosThenOne
 ue-at-the-edges = refl
 

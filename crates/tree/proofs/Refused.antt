@@ -119,6 +119,12 @@ why-ue {N} name at s f e = go (zerosThenOne name mostZeros at 0 s) refl
             let j : s ++ y .0 ≡ zerosOne k ++ (drop m s ++ y .0) = ap (λ (l : List Bool). l ++ y .0) (c .1) ∙ append-assoc (zerosOne k) (drop m s) (y .0) in
             inl (b .0, cut-ue name at k s (y .0) (drop m s ++ y .0) (c .0) (sym (y .2)) j (y .1))
 
+-- fewer than n bits are the beginning of a field of n
+pub cut-off-field : {N : Type 0} (name : N) (n at : ℕ) (s : List Bool) → length s < n → CutOff (fixed (unsigned n)) s
+cut-off-field name n at s h =
+    let y = cut-u name n at s h in
+    completed (fixed (unsigned n)) name at s (y .0) (pos (value (take n (s ++ y .0)))) n (rw (y .3) refl) (y .2) (y .1)
+
 -- why an element's reader refuses
 pub refused-coded : {N : Type 0} (d : Descriptor) (name : N) (at : ℕ) (s : List Bool) (f : Fault N) → coded d name at s ≡ no f
     → ((f ≡ cutOff at name) × CutOff d s) ⊎ ((f ≡ overlong at name) × TooMany d s)
@@ -126,8 +132,7 @@ unfolding Why i
 refused-coded variable name at s f e = why-ue name at s f (refused-mapped pos (ue name mostZeros at s) f e)
 refused-coded (fixed (unsigned n)) name at s f e =
     let b = refused-u name n at s f (refused-mapped pos (u name n at s) f e) in
-    let y = cut-u name n at s (b .1) in
-    inl (b .0, completed (fixed (unsigned n)) name at s (y .0) (pos (value (take n (s ++ y .0)))) n (rw (y .3) refl) (y .2) (y .1))
+    inl (b .0, cut-off-field name n at s (b .1))
 refused-coded (fixed (signed n)) name at s f e =
     let b = refused-u name n at s f (refused-mapped (signedOf n) (u name n at s) f e) in
     let y = cut-u name n at s (b .1) in

@@ -121,6 +121,11 @@ module _ {N B : Type 0} where
   unfolding Follow _>>=_
   ranged-together n d k low high g at z es x h a f = ((refl, refl, h), rw a f)
 
+  pub ranged-broken : (n : N) (d : Descriptor) (k : ℕ) (low high : ℤ) (g : ℤ → Syntax N B) (at : ℕ) (z : ℤ)
+      → holdsIn d z ≡ true → allows (between low high) z ≡ false → Follow (ranged n d k low high >>= g) at (element n d z ∷ []) (broken (rangeRule n k low high at z))
+  unfolding Follow _>>=_
+  ranged-broken n d k low high g at z h a = ((refl, refl, h), rw a (refl, refl))
+
 -- ---- rows of fields, and zero bits
 
 pub row-takes : {N : Type 0} (fs : List (Field N)) (at : ℕ) (zs : List ℤ) → holdAll (map codingOf fs) zs ≡ true → Follow (row fs) at (fieldElements fs zs) (complete zs)

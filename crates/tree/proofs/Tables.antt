@@ -157,3 +157,25 @@ apart (here f) g at es x h = go (apart (f at) g at es x h)
     go : Apart (f at) g at es x ⊎ Inside (f at) at es x → Apart (here f) g at es x ⊎ Inside (here f) at es x
     go (inl k) = inl (record { first = k .first; second = k .second; made = k .made; all = k .all; one = k .one; two = k .two })
     go (inr k) = inr (record { next = k .next; one = k .one; same = k .same })
+
+-- so what comes next in the first table, not being complete, comes next in both
+pub next-in-both : {N A B : Type 0} (p : Syntax N A) (g : A → Syntax N B) (at : ℕ) (es : List (Element N)) (y : Next N A) (x : Next N B)
+    → Follow p at es y → Within y x → Follow (p >>= g) at es x
+unfolding Follow _>>=_
+next-in-both (done a) g at es (complete b) x h w = absurd w
+next-in-both (done a) g at es (awaits n d) x h w = let e = h .1 in let z : _≡_ {A = ℕ} 0 1 = cc in absurd (omega arith)
+next-in-both (done a) g at es (broken r) x h w = let e = h .1 in let z : _≡_ {A = ℕ} 0 1 = cc in absurd (omega arith)
+next-in-both (reads n d f) g at [] y x h w = rw h at w
+next-in-both (reads n d f) g at (e ∷ es) y x h w = (h .0, next-in-both (f (e .value)) g (at + width e) es y x (h .1) w)
+next-in-both {N} {A} {B} (checks r p) g at es y x h w = go (next-in-both p g at es y x) (meets r) refl
+  where
+    go : (Follow p at es y → Within y x → Follow (p >>= g) at es x) → (b : Bool) → meets r ≡ b → cond (meets r) (Follow (p >>= g) at es x) ((es ≡ []) × (x ≡ broken r))
+    go ih true q = rw q (ih (rw q at h) w)
+    go ih false q = let k : (es ≡ []) × (y ≡ broken r) = rw q at h in rw q (k .0, rw (k .1) at w)
+next-in-both (here f) g at es y x h w = next-in-both (f at) g at es y x h w
+
+-- what comes next in both is not complete
+pub next-itself : {N A B : Type 0} (y : Next N A) (x : Next N B) → Within y x → Within {B = B} x x
+next-itself (complete a) x w = absurd w
+next-itself (awaits n d) x w = rw w refl
+next-itself (broken r) x w = rw w refl

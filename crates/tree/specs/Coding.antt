@@ -8,9 +8,9 @@ use Rattle.tree.specs.Bits.{code}
 use Rattle.tree.specs.Reading.{Reader, mapped, u, i, ue}
 use Rattle.tree.specs.Codes.{zerosOf, ueCode}
 
--- ours: a ue(v) code has at most 15 zeros (01, The data, bit by bit)
+-- H.265: a ue(v) code has at most 31 zeros, so its number is at most 2^32 − 2 (02, d)
 abbrev pub mostZeros : ℕ
-mostZeros = 15
+mostZeros = 31
 
 -- the descriptors u(n) and i(n)
 pub data Coding : Type 0 where

@@ -33,13 +33,12 @@ few-digits l k n h j e =
     rw (d, pow-suc 2 (n - (k + 1))) (omega (arith, rw (m, e) at w, b))
 
 -- all bits of a code with k zeros are a number above 0, which is below 2 ^ (k + 1)
-whole-code : (l : List Bool) (k : ℕ) → 2 * k + 1 ≤ length l → k ≤ 31 → value (take (k + 1) l) ≡ 1 → (1 ≤ value (take (2 * k + 1) l)) × (value (take (2 * k + 1) l) < 4294967296)
-whole-code l k h few e =
+whole-code : (l : List Bool) (k : ℕ) → 2 * k + 1 ≤ length l → value (take (k + 1) l) ≡ 1 → (1 ≤ value (take (2 * k + 1) l)) × (value (take (2 * k + 1) l) < 2 ^ (k + 1))
+whole-code l k h e =
     let m : k + 1 + k ≡ 2 * k + 1 = omega arith in
+    let d : 2 * k + 1 - k ≡ k + 1 = omega arith in
     let w = joined l (k + 1) k (omega arith) in
-    let b = few-digits l k (2 * k + 1) (omega arith) h e in
-    let p : 2 ^ (2 * k + 1 - k) ≤ 2 ^ 32 = pow-mono {j = 32} (omega arith) in
-    (omega (arith, rw (m, e) at w, pow-pos k), omega (arith, b, p))
+    (omega (arith, rw (m, e) at w, pow-pos k), rw d at (few-digits l k (2 * k + 1) (omega arith) h e))
 
 mul-width : tie.Need-mul-width Inv-loop μ-loop
 mul-width c = omega arith
@@ -125,8 +124,10 @@ whole c =
     let b = drop (s .args .at) (bitsOf (s .args .s .now)) in
     let r = length-rest (s .args .s .now) (s .args .at) in
     let w : ℕ = 2 * s .args .zeros + 1 in
-    let d = whole-code b (s .args .zeros) (omega (arith, r)) (s .pre .6) (s .pre .5) in
-    (ap (λ (v : ℕ). v / 2 ^ (l .n - w)) (l .inv .0) ∙ front b (l .n) w (omega arith) (omega (arith, r)), d .0, d .1)
+    let d = whole-code b (s .args .zeros) (omega (arith, r)) (s .pre .5) in
+    -- 31 zeros at most: the number fits 32 bits
+    let p : 2 ^ (s .args .zeros + 1) ≤ 2 ^ 32 = pow-mono {j = 32} (omega (arith, s .pre .6)) in
+    (ap (λ (v : ℕ). v / 2 ^ (l .n - w)) (l .inv .0) ∙ front b (l .n) w (omega arith) (omega (arith, r)), d .0, omega (arith, d .1, p))
 
 sub-t26 : tie.Need-sub-t26 Inv-loop μ-loop
 sub-t26 c = let w = whole c in rw (w .0) (w .1)
