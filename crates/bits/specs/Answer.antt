@@ -27,6 +27,10 @@ spanOf (no f) = Refused (refusal (numberIn f))
 abbrev pub refusedNumber : ℕ → Number
 refusedNumber k = Refused (refusal k)
 
+-- the number of a ue(v) code fits 32 bits if it has so many zeros, and with one more it need not
+abbrev pub zerosThatFit : ℕ
+zerosThatFit = 31
+
 -- ---- on the way to a ue(v) code
 
 abbrev pub refusedLead : ℕ → Lead
@@ -40,5 +44,5 @@ Leads s at most (RefusedLead r) = Refused r ≡ numberOf (ue nameless most at (d
 -- a code of so many zeros, whose first n bits are the number v and end before byte i
 abbrev pub Begun : List ℕ → ℕ → ℕ → ℕ → ℕ → ℕ → Type 0
 Begun s at v n i zeros =
-    (v ≡ value (take n (drop at (bitsOf s)))) × (at + n ≡ 8 * i) × (i ≤ length s) × (zeros < n) × (n ≤ 39) × (value (take (zeros + 1) (drop at (bitsOf s))) ≡ 1)
-    × (zeros ≤ 31)
+    (v ≡ value (take n (drop at (bitsOf s)))) × (at + n ≡ 8 * i) × (i ≤ length s) × (zeros < n) × (n ≤ zerosThatFit + 8) × (value (take (zeros + 1) (drop at (bitsOf s))) ≡ 1)
+    × (zeros ≤ zerosThatFit)

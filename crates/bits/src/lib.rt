@@ -7,7 +7,7 @@ ghost use lib.ListN.{length, drop, take};
 ghost use Rattle.tree.specs.Bits.{bitsOf, value};
 ghost use Rattle.tree.specs.Reading.{u, ue, signedOf};
 ghost use Rattle.tree.specs.Syntax.{read, zeroBits};
-ghost use Rattle.bits.specs.Answer.{nameless, numberOf, spanOf, refusedNumber, refusedLead, Leads, Begun};
+ghost use Rattle.bits.specs.Answer.{nameless, numberOf, spanOf, refusedNumber, refusedLead, zerosThatFit, Leads, Begun};
 
 // H.265: a ue(v) code has at most 31 zeros, so its number is at most 2^32 - 2.
 pub const MOST_ZEROS: usize = 31;
@@ -83,7 +83,7 @@ fn refuse_lead(number: u8) -> Lead
 }
 
 fn read_lead(s: &[u8], at: usize, most: usize) -> Lead
-    requires { ⌜ most ≤ 31 ⌝ }
+    requires { ⌜ most ≤ zerosThatFit ⌝ }
     ensures { λ r. ⌜ Leads (now (s .entry)) at most r ⌝ }
 {
     let mut i = at / 8;
@@ -144,9 +144,9 @@ fn read_code(s: &[u8], at: usize, lead: u64, have: usize, next: usize, zeros: us
     }
 }
 
-// ue(v) with at most `most` zeros, for every such limit up to 31.
+// ue(v) with at most `most` zeros, for every such limit whose numbers fit: up to 31.
 pub fn read_ue(s: &[u8], at: usize, most: usize) -> Number
-    requires { ⌜ most ≤ 31 ⌝ }
+    requires { ⌜ most ≤ zerosThatFit ⌝ }
     ensures { λ r. ⌜ r ≡ numberOf (ue nameless most at (drop at (bitsOf (now (s .entry))))) ⌝ }
 {
     match read_lead(s, at, most) {

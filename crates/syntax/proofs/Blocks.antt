@@ -1,17 +1,18 @@
 -- A block is followed by exactly the elements of a block that fits, known or reserved.
-use Prim.Native.Nat.{ℕ, zero, suc, _+_, _*_, _^_}
+use Prim.Native.Nat.{ℕ, zero, suc, _+_, _*_}
 use mathlib.Core.Path.{_≡_, refl, ap, sym, _∙_}
 use mathlib.Core.List.{List, [], _∷_, _++_, append-nil, map}
 use mathlib.Core.Bool.{Bool, true, false, cond, not, _&&_}
 use native.Mathlib.Omega.{arith}
-use borrow.Author.Tests.{leb-true, le-leb, lt-ltb}
+use borrow.Author.Tests.{leb-true, le-leb}
 use lib.Dec.{leb}
 use lib.ListN.{replicate}
 use lib.IntN.{ℤ, pos, negsuc}
 use Rattle.tree.specs.Reading.{meets}
-use Rattle.tree.specs.Coding.{mostZeros, Coding, unsigned, holds, variable, fixed, holdsIn, widthIn, natural, holdAll}
+use Rattle.tree.specs.Coding.{Coding, unsigned, holds, variable, fixed, holdsIn, widthIn, natural, holdAll}
 use Rattle.tree.specs.Syntax.{Syntax, done, _>>=_, must, any, codingOf, row, oneBit, zeroBits}
 use Rattle.tree.specs.Meaning.{Element, element, zeroBit, fieldElements, sumOfWidths, Next, complete, Follow}
+use Rattle.tree.proofs.Elements.{ue-holds}
 use Rattle.tree.proofs.Truth.{clash}
 use Rattle.tree.proofs.Tables.{together}
 use Rattle.tree.proofs.Spells.{joined, alone, apart-complete, any-only, any-together, must-only, must-together, done-only, row-takes, row-only, zeros-take, zeros-only, same-number}
@@ -123,7 +124,7 @@ module _ (start at : ℕ) where
       let f : known l ≡ false = unknown (known l) (search tests depth 12) in
       let m = leb-true n mostReserved (search tests depth 12) in
       let e : holdAll (replicate (8 * n) (unsigned 1)) zs ≡ true = search tests depth 12 in
-      by-rules n l (fieldElements (reservedBits n) zs) (passed l n zs) (lt-ltb (n + 1) (2 ^ suc mostZeros) (omega arith)) (search tests depth 12)
+      by-rules n l (fieldElements (reservedBits n) zs) (passed l n zs) (ue-holds n (omega arith)) (search tests depth 12)
       (rw f (rw (le-leb 0 n (omega arith), le-leb n mostReserved m) refl)) (λ there. rw f (reserved-takes l n zs e there))
     where
       unknown : (b : Bool) → not b ≡ true → b ≡ false

@@ -1,20 +1,21 @@
 -- Exactness: the table is followed by exactly the elements of well-formed data, and an input is accepted exactly if it is the payload of such.
-use Prim.Native.Nat.{ℕ, zero, suc, _+_, _/_, _%_, _^_, _≤_}
+use Prim.Native.Nat.{ℕ, zero, suc, _+_, _/_, _%_, _≤_}
 use mathlib.Core.Path.{_≡_, refl, ap, sym, _∙_}
 use mathlib.Core.List.{List, [], _∷_, _++_, append-nil, append-assoc}
 use mathlib.Core.Bool.{Bool, true, false, cond}
 use native.Mathlib.Omega.{arith}
 use native.Mathlib.Nat.{zero-add}
-use borrow.Author.Tests.{leb-true, le-leb, ltb-true, lt-ltb}
+use borrow.Author.Tests.{leb-true, le-leb, ltb-true}
 use lib.Dec.{eqb, leb}
 use lib.ListN.{length, replicate}
 use lib.IntN.{ℤ, pos, negsuc}
 use Rattle.refusals.specs.Refusals.{wrongIdentifier, wrongVersion, tooManyBlocks}
 use Rattle.tree.specs.Bits.{bit, bitsOf, Bytes}
 use Rattle.tree.specs.Reading.{between, allows, ok, toBoundary}
-use Rattle.tree.specs.Coding.{mostZeros, unsigned, holds, variable, fixed, widthIn, natural}
+use Rattle.tree.specs.Coding.{unsigned, holds, variable, fixed, widthIn, natural}
 use Rattle.tree.specs.Syntax.{Syntax, done, any, ranged, alignment, _>>=_}
 use Rattle.tree.specs.Meaning.{Element, element, zeroBit, sumOfWidths, allBits, complete, Follow, Spells}
+use Rattle.tree.proofs.Elements.{ue-holds}
 use Rattle.tree.proofs.Truth.{clash}
 use Rattle.tree.proofs.Bits.{packed-bytes}
 use Rattle.tree.proofs.Meaning.{widths-append}
@@ -58,7 +59,7 @@ head-takes true n a at =
     (ranged-together «app_version» variable wrongVersion (pos 0) (pos 0) afterVersion (at + widthIn variable (pos 1)) (pos 0) _ (complete (announced true n)) refl refl
     (any-together «metadata_refresh_flag» (fixed (unsigned 1)) afterFlag (version at) (pos 1) _ (complete (announced true n)) refl
     (ranged-together «num_ext_blocks» variable tooManyBlocks (pos 0) (pos mostAnnounced) (λ m. done (announced true (natural m))) (version at + 1) (pos n) [] (complete (announced true n))
-    (lt-ltb (n + 1) (2 ^ suc mostZeros) (omega arith)) (rw (le-leb 0 n (omega arith), le-leb n mostAnnounced few) refl) (refl, refl))))
+    (ue-holds n (omega arith)) (rw (le-leb 0 n (omega arith), le-leb n mostAnnounced few) refl) (refl, refl))))
 head-takes false n a at =
     let z : n ≡ 0 = a .flag refl in
     rw z

@@ -4,39 +4,36 @@ use Prim.Native.Nat.{ℕ, zero, suc, _+_, _^_, _<_, _≤_}
 use mathlib.Core.Path.{_≡_, refl, ap, _∙_}
 use mathlib.Core.List.{List, [], _∷_, _++_, append-assoc}
 use mathlib.Core.Bool.{Bool, true, false, _&&_}
-use mathlib.Core.Logic.{_⊎_, inl, inr}
+use mathlib.Core.Logic.{inl}
 use native.Mathlib.Omega.{arith}
 use native.Mathlib.Nat.{zero-add, add-zero, add-assoc}
 use borrow.Author.Tests.{ne-eqb, lt-leb, lt-ltb, le-leb}
 use lib.Dec.{eqb, leb}
 use lib.ListN.{length, replicate}
 use lib.IntN.{pos}
-use Rattle.refusals.specs.Refusals.{bytesRemain, tooManyZeros, wrongIdentifier, wrongVersion, tooManyBlocks}
+use Rattle.refusals.specs.Refusals.{tooManyZeros, wrongIdentifier, wrongVersion, tooManyBlocks}
 use Rattle.tree.specs.Reading.{allows, Rule, meets, Fault, cutOff, overlong, breaks, numberIn, no}
 use Rattle.tree.specs.Codes.{halvings}
-use Rattle.tree.specs.Coding.{mostZeros, unsigned, variable, fixed, natural, holdsIn}
-use Rattle.tree.specs.Syntax.{rangeRule, leftOver, _>>=_, done}
-use Rattle.tree.specs.Meaning.{Element, sumOfWidths, allBits, Next, complete, awaits, broken, Follow}
+use Rattle.tree.specs.Coding.{mostZeros, unsigned, variable, fixed, natural}
+use Rattle.tree.specs.Syntax.{rangeRule, _>>=_, done}
+use Rattle.tree.specs.Meaning.{Element, sumOfWidths, allBits, Next, awaits, broken, Follow}
 use Rattle.tree.proofs.Truth.{clash, range-of-one}
+use Rattle.tree.proofs.Elements.{ue-holds}
 use Rattle.tree.proofs.Meaning.{widths-append}
 use Rattle.tree.proofs.Tables.{together, Within, next-in-both, next-itself}
 use Rattle.tree.proofs.Spells.{ranged-together, ranged-broken, any-together}
 use Rattle.tree.proofs.Refused.{cut-off-field}
 use Rattle.record.specs.declared.Block.{Block}
-use Rattle.record.specs.Name.{Name, «app_identifier», «app_version», «metadata_refresh_flag», «num_ext_blocks», «ext_block_length», «ext_block_level», «end»}
+use Rattle.record.specs.Name.{Name, «app_identifier», «app_version», «metadata_refresh_flag», «num_ext_blocks», «ext_block_length», «ext_block_level»}
 use Rattle.record.proofs.Laws.{and-left, and-right}
 use Rattle.valid.specs.Valid.{among}
 use Rattle.syntax.specs.Data.{mostAnnounced, announced, blockCount, head, Item, keptIn, lengths, lengthRule, wholeBlock, block, blocksAfter, Data, firstAlignment, «ST2094-10_data», bareData}
 use Rattle.syntax.specs.Element.{variableElement, fixedElement, headElements, openElements, itemElements, itemsElements, itemFits, itemFollows, allFit}
-use Rattle.syntax.specs.Reason.{Speaks, Reason}
+use Rattle.syntax.specs.Reason.{Reason}
 use Rattle.syntax.proofs.Items.{behind, one-block-more}
 use Rattle.syntax.proofs.Exact.{afterFlag, afterVersion, afterIdentifier, afterHead, afterFirst, lastly, firstGap, head-takes, first-takes, opens-with}
 use Rattle.syntax.proofs.Reasons.{data-speaks, the-reason-is-true, a-true-reason-is-given}
-use Rattle.syntax.proofs.Stands.{rule-number}
-
--- a number that a ue(v) code has
-held : (v : ℕ) → v + 1 < 2 ^ suc mostZeros → holdsIn variable (pos v) ≡ true
-held v h = lt-ltb (v + 1) (2 ^ suc mostZeros) h
+use Rattle.syntax.proofs.Stands.{no-rule-has}
 
 -- a rule that the elements es break is the refusal of every input that begins with them
 refused-by : (es : List (Element Name)) (t : List Bool) (r : Rule Name) → meets r ≡ false → Follow «ST2094-10_data» 0 es (broken r) → bareData (allBits es ++ t) ≡ no (breaks r)
@@ -56,7 +53,7 @@ another-identifier v t h other =
     let m = not-the-one v 1 other in
     refused-by (variableElement «app_identifier» v ∷ []) t r m
     (next-in-both head afterHead 0 (variableElement «app_identifier» v ∷ []) (broken r) (broken r)
-    (ranged-broken «app_identifier» variable wrongIdentifier (pos 1) (pos 1) afterIdentifier 0 (pos v) (held v h) m) refl)
+    (ranged-broken «app_identifier» variable wrongIdentifier (pos 1) (pos 1) afterIdentifier 0 (pos v) (ue-holds v h) m) refl)
 
 pub another-version : (v : ℕ) (t : List Bool) → v + 1 < 2 ^ suc mostZeros → (v ≡ 0 → ⊥)
     → bareData (allBits (variableElement «app_identifier» 1 ∷ variableElement «app_version» v ∷ []) ++ t) ≡ no (breaks (rangeRule «app_version» wrongVersion (pos 0) (pos 0) 3 (pos v)))
@@ -68,7 +65,7 @@ another-version v t h other =
     refused-by es t r m
     (next-in-both head afterHead 0 es (broken r) (broken r)
     (ranged-together «app_identifier» variable wrongIdentifier (pos 1) (pos 1) afterIdentifier 0 (pos 1) (variableElement «app_version» v ∷ []) (broken r) refl refl
-    (ranged-broken «app_version» variable wrongVersion (pos 0) (pos 0) afterVersion 3 (pos v) (held v h) m))
+    (ranged-broken «app_version» variable wrongVersion (pos 0) (pos 0) afterVersion 3 (pos v) (ue-holds v h) m))
     refl)
 
 pub too-many-announced : (n : ℕ) (t : List Bool) → n + 1 < 2 ^ suc mostZeros → mostAnnounced < n
@@ -82,7 +79,7 @@ too-many-announced n t h many =
     (ranged-together «app_identifier» variable wrongIdentifier (pos 1) (pos 1) afterIdentifier 0 (pos 1) _ (broken r) refl refl
     (ranged-together «app_version» variable wrongVersion (pos 0) (pos 0) afterVersion 3 (pos 0) _ (broken r) refl refl
     (any-together «metadata_refresh_flag» (fixed (unsigned 1)) afterFlag 4 (pos 1) _ (broken r) refl
-    (ranged-broken «num_ext_blocks» variable tooManyBlocks (pos 0) (pos mostAnnounced) (λ n. done (announced true (natural n))) 5 (pos n) (held n h) m))))
+    (ranged-broken «num_ext_blocks» variable tooManyBlocks (pos 0) (pos mostAnnounced) (λ n. done (announced true (natural n))) 5 (pos n) (ue-holds n h) m))))
     refl)
 
 -- ---- ext_block_length
@@ -133,7 +130,7 @@ module _ (count : ℕ) (is : List Item) (few : count ≤ mostAnnounced) (fewer :
     another-length l t small m =
         let r = lengthRule (sumOfWidths earlier) (pos n) l in
         let fs = variableElement «ext_block_length» n ∷ fixedElement 8 «ext_block_level» l ∷ [] in
-        refused-by (earlier ++ fs) t r m (next-in-data fs (broken r) (broken r) (broken r) refl refl ((refl, refl, held n h), ((refl, refl, lt-ltb l 256 small), rw m (refl, refl))))
+        refused-by (earlier ++ fs) t r m (next-in-data fs (broken r) (broken r) (broken r) refl refl ((refl, refl, ue-holds n h), ((refl, refl, lt-ltb l 256 small), rw m (refl, refl))))
 
     -- without it, whatever the length is
     pub no-level : (t : List Bool) → length t < 8
@@ -143,7 +140,7 @@ module _ (count : ℕ) (is : List Item) (few : count ≤ mostAnnounced) (fewer :
         let es = earlier ++ (variableElement «ext_block_length» n ∷ []) in
         let d = fixed (unsigned 8) in
         a-true-reason-is-given (allBits es ++ t) (cutOff (sumOfWidths es) «ext_block_level»)
-        (es, t, d, next-in-data (variableElement «ext_block_length» n ∷ []) (awaits «ext_block_level» d) (awaits «ext_block_level» d) (awaits «ext_block_level» d) refl refl ((refl, refl, held n h), refl), refl, refl, cut-off-field «ext_block_level» 8 0 t short)
+        (es, t, d, next-in-data (variableElement «ext_block_length» n ∷ []) (awaits «ext_block_level» d) (awaits «ext_block_level» d) (awaits «ext_block_level» d) refl refl ((refl, refl, ue-holds n h), refl), refl, refl, cut-off-field «ext_block_level» 8 0 t short)
 
 -- ---- 2
 
@@ -167,8 +164,4 @@ only-a-zero-too-many s f e n = go f (the-reason-is-true s f e) n
     go (overlong offset name) m n =
         let c = m .6 in
         (m .0, name, c .rest, rw (c .code) at (m .3), m .4 ∙ ap (λ (l : List Bool). allBits (m .0) ++ l) (c .zeros))
-    go (breaks q) m n = by (m .4)
-      where
-        by : (Follow «ST2094-10_data» 0 (m .0) (broken q) × Speaks 0 (m .0) q) ⊎ ((a : Data) × Follow «ST2094-10_data» 0 (m .0) (complete a) × (q ≡ leftOver «end» (sumOfWidths (m .0)) (m .1))) → ZeroTooMany s
-        by (inl k) = let x = rule-number 0 (m .0) q tooManyZeros (k .1) n in let z : _≡_ {A = ℕ} 0 1 = cc in clash z
-        by (inr k) = let x : bytesRemain ≡ tooManyZeros = rw (k .2) at n in absurd (omega arith)
+    go (breaks q) m n = absurd (no-rule-has tooManyZeros refl (λ e. omega arith) (m .0) (m .1) q (m .4) n)

@@ -64,9 +64,18 @@ a-payload-with-anything-behind-gets-12 d w t h =
     ap bareData (bits-append (dataPayload d) t ∙ ap (λ (bits : List Bool). bits ++ bitsOf t) (bits-pack (allBits (dataElements d)) l))
     ∙ generic.anything-behind «end» «ST2094-10_data» (dataElements d) d (bitsOf t) (data-spells .takes d w) (omega (arith, length-bits t))
 
--- a rule has one of these numbers, and so neither 1 nor 2 nor 12
-pub rule-number : (at : ℕ) (es : List (Element Name)) (r : Rule Name) (n : ℕ) → Speaks at es r → r .number ≡ n → among n ruleNumbers ≡ true
+-- a rule has one of these numbers
+rule-number : (at : ℕ) (es : List (Element Name)) (r : Rule Name) (n : ℕ) → Speaks at es r → r .number ≡ n → among n ruleNumbers ≡ true
 rule-number at es r n k e = rw e at (listed (k .earlier) (k .theirs) r (k .about))
+
+-- what a broken rule rests on: elements that break one of the table, or bytes that are left over
+abbrev BrokenBy : List (Element Name) → List Bool → Rule Name → Type 0
+BrokenBy es t q = (Follow «ST2094-10_data» 0 es (broken q) × Speaks 0 es q) ⊎ ((a : Data) × Follow «ST2094-10_data» 0 es (complete a) × (q ≡ leftOver «end» (sumOfWidths es) t))
+
+-- so a number that none of these has, and that is not 12, is that of no broken rule
+pub no-rule-has : (n : ℕ) → among n ruleNumbers ≡ false → (n ≡ bytesRemain → ⊥) → (es : List (Element Name)) (t : List Bool) (q : Rule Name) → BrokenBy es t q → q .number ≡ n → ⊥
+no-rule-has n none other es t q (inl k) e = let x = rule-number 0 es q n (k .1) e in let z : _≡_ {A = ℕ} 0 1 = cc in clash z
+no-rule-has n none other es t q (inr k) e = other (sym e ∙ ap (λ (r : Rule Name). r .number) (k .2))
 
 -- and only such an input does
 pub only-such-an-input-gets-12 : (s : List ℕ) → Bytes s → (f : Fault Name) → bareData (bitsOf s) ≡ no f → numberIn f ≡ bytesRemain
@@ -88,8 +97,7 @@ only-such-an-input-gets-12 s h f e n = go f (the-reason-is-true (bitsOf s) f e) 
     go (overlong offset name) m n = absurd (omega arith)
     go (breaks q) m n = by (m .4)
       where
-        by : (Follow «ST2094-10_data» 0 (m .0) (broken q) × Speaks 0 (m .0) q) ⊎ ((a : Data) × Follow «ST2094-10_data» 0 (m .0) (complete a) × (q ≡ leftOver «end» (sumOfWidths (m .0)) (m .1)))
-            → (d : Data) × (t : List ℕ) × WellFormedData d × (s ≡ dataPayload d ++ t) × (0 < length t)
+        by : BrokenBy (m .0) (m .1) q → (d : Data) × (t : List ℕ) × WellFormedData d × (s ≡ dataPayload d ++ t) × (0 < length t)
         by (inl k) = let x = rule-number 0 (m .0) q bytesRemain (k .1) n in let z : _≡_ {A = ℕ} 0 1 = cc in clash z
         by (inr k) = found (k .0) (m .0) (m .1) (k .1) (m .2) (left-over «end» (sumOfWidths (m .0)) (m .1) (rw (k .2) at (m .3)))
 
@@ -254,11 +262,7 @@ enough-bits s l f e n = go f (the-reason-is-true s f e) n
         let b = cut-off-before «ST2094-10_data» mostBits data-ends s offset name (m .0, m .1, m .2, m .3, m .4, omega (arith, m .5), m .6) in
         absurd (omega (arith, b))
     go (overlong offset name) m n = absurd (omega arith)
-    go (breaks q) m n = by (m .4)
-      where
-        by : (Follow «ST2094-10_data» 0 (m .0) (broken q) × Speaks 0 (m .0) q) ⊎ ((a : Data) × Follow «ST2094-10_data» 0 (m .0) (complete a) × (q ≡ leftOver «end» (sumOfWidths (m .0)) (m .1))) → ⊥
-        by (inl k) = let x = rule-number 0 (m .0) q pastEnd (k .1) n in let z : _≡_ {A = ℕ} 0 1 = cc in clash z
-        by (inr k) = let x : bytesRemain ≡ pastEnd = rw (k .2) at n in absurd (omega arith)
+    go (breaks q) m n = no-rule-has pastEnd refl (λ e. omega arith) (m .0) (m .1) q (m .4) n
 
 -- bare data of 260,766 bytes or more never gets 1
 pub bare-data-of-260766-bytes-never-gets-1 : (s : List ℕ) → 260766 ≤ length s → (f : Fault Name) → bareData (bitsOf s) ≡ no f → numberIn f ≡ pastEnd → ⊥

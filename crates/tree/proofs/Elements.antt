@@ -250,6 +250,10 @@ signed-holds n (negsuc v) h = go (ltb v (2 ^ n - 2 ^ (n - 1))) refl
         let e : pos (2 ^ n - suc v) ≡ negsuc v = sym (signed-low n (2 ^ n - suc v) m) ∙ h .1 in
         let z : _≡_ {A = ℕ} 0 1 = cc in absurd (omega arith)
 
+-- ue(v) holds the numbers below 2^(mostZeros+1) − 1
+pub ue-holds : (v : ℕ) → v + 1 < 2 ^ suc mostZeros → holdsIn variable (pos v) ≡ true
+ue-holds v h = lt-ltb (v + 1) (2 ^ suc mostZeros) h
+
 -- every descriptor: its reader takes exactly the codes of the numbers that it holds
 pub codes-coded : {N : Type 0} (d : Descriptor) (name : N) (at : ℕ) → Codes (coded d name at) (codeIn d) (λ z. holdsIn d z ≡ true)
 unfolding i
@@ -258,7 +262,7 @@ codes-coded variable name at =
     to from (codes-map (ue name mostZeros at) ueCode (λ v. v + 1 < 2 ^ suc mostZeros) pos natural (λ v h. refl) (codes-ue name mostZeros at))
   where
     to : (z : ℤ) → (natural z + 1 < 2 ^ suc mostZeros) × (pos (natural z) ≡ z) → holdsIn variable z ≡ true
-    to (pos v) h = lt-ltb (v + 1) (2 ^ suc mostZeros) (h .0)
+    to (pos v) h = ue-holds v (h .0)
     to (negsuc v) h = let e = h .1 in let z : _≡_ {A = ℕ} 0 1 = cc in absurd (omega arith)
 
     from : (z : ℤ) → holdsIn variable z ≡ true → (natural z + 1 < 2 ^ suc mostZeros) × (pos (natural z) ≡ z)

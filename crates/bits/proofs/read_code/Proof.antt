@@ -11,14 +11,14 @@ use lib.Pow.{pow-mono, pow-pos}
 use Rattle.tree.specs.Bits.{bitsOf, value}
 use Rattle.tree.proofs.Bits.{length-rest, value-take-lt}
 use Rattle.window.proofs.Laws.{joined, front}
-use Rattle.bits.specs.Answer.{numberOf}
+use Rattle.bits.specs.Answer.{numberOf, zerosThatFit}
 use Rattle.bits.proofs.Reading.{byte-more, ue-cut, ue-is}
 use borrow.Author.Needs.{needs}
 use Rattle.bits.proofs.read_code.Statement.{statement}
 use Rattle.bits.proofs.read_code.Tie as tie
 
 abbrev Inv-loop : tie.InvT-loop
-Inv-loop s at lead have next zeros width v₀ n₀ i₀ v n i = (v ≡ value (take n (drop at (bitsOf s)))) × (at + n ≡ 8 * i) × (i ≤ length s) × (at + width ≤ 8 * length s) × (zeros < n) × (n ≤ 2 * zeros + 39)
+Inv-loop s at lead have next zeros width v₀ n₀ i₀ v n i = (v ≡ value (take n (drop at (bitsOf s)))) × (at + n ≡ 8 * i) × (i ≤ length s) × (at + width ≤ 8 * length s) × (zeros < n) × (n ≤ 2 * zeros + zerosThatFit + 8)
 
 abbrev μ-loop : tie.MeasureT-loop
 μ-loop s at lead have next zeros width v₀ n₀ i₀ v n i = width - n
@@ -125,7 +125,7 @@ whole c =
     let r = length-rest (s .args .s .now) (s .args .at) in
     let w : ℕ = 2 * s .args .zeros + 1 in
     let d = whole-code b (s .args .zeros) (omega (arith, r)) (s .pre .5) in
-    -- 31 zeros at most: the number fits 32 bits
+    -- so few zeros that the number fits 32 bits
     let p : 2 ^ (s .args .zeros + 1) ≤ 2 ^ 32 = pow-mono {j = 32} (omega (arith, s .pre .6)) in
     (ap (λ (v : ℕ). v / 2 ^ (l .n - w)) (l .inv .0) ∙ front b (l .n) w (omega arith) (omega (arith, r)), d .0, omega (arith, d .1, p))
 
