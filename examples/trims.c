@@ -1,5 +1,6 @@
 /*
- * Prints the level 2 trims of a wrapped payload: a line for each block, its numbers as the shader gets them.
+ * Prints the level 2 trims of a wrapped payload: a line for each block, its numbers as the shader gets them. Of one that is refused it
+ * prints the number, and where: at which bit of the data, or at which byte of the wrapper.
  *
  *   rt staticlib pimlasut
  *   cc -Wall -Wextra -std=c99 -Iinclude examples/trims.c target/staticlib/libpimlasut.a -o trims      (x86-64)
@@ -38,7 +39,8 @@ int main(int count, char **arguments)
     uint32_t reading[PIM_READING_LEN];
     uint32_t result = pim_read_wrapped(payload, n, record, PIM_RECORD_LEN, reading, PIM_READING_LEN);
     if (result != PIM_DONE) {
-        printf("refused: %u\n", (unsigned)result);
+        printf("refused: %u, at %s %u\n", (unsigned)result, reading[PIM_READING_IN_WRAPPER] ? "byte" : "bit",
+               (unsigned)reading[PIM_READING_OFFSET]);
         return 1;
     }
     for (int i = 0; i < record[1]; i++) {

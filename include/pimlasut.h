@@ -7,7 +7,7 @@
  *
  * Every function is proved to answer as is said here, for every input (crates/pimlasut). It answers a result number:
  * 0 means done, any other is a refusal. ON A REFUSAL EVERY ARRAY AND EVERY SINGLE NUMBER STAYS AS IT WAS, with one
- * exception: the facts of a reading (`reading`) are then all zeros, if they have their length.
+ * exception: the facts of a reading (`reading`) then say where it was refused, if they have their length.
  *
  * What a caller owes: each pointer is not null, also where a length is 0, and is aligned for its type; `x` and `x_len` name
  * an array of x_len elements (not bytes) that can be read, and written where it is not const; what is written overlaps
@@ -64,9 +64,27 @@ extern "C" {
  * The facts of a reading are PIM_READING_LEN numbers, each in a named place. A caller declares
  * `uint32_t reading[PIM_READING_LEN]`; a later version may add places, and changes none.
  */
-#define PIM_READING_BITS 0    /* the bits read, wrapper not counted; those of reserved blocks are */
-#define PIM_READING_SKIPPED 1 /* the number of reserved blocks that were passed over */
-#define PIM_READING_LEN 2
+#define PIM_READING_BITS 0       /* the bits read, wrapper not counted; those of reserved blocks are. On a refusal 0 */
+#define PIM_READING_SKIPPED 1    /* the number of reserved blocks that were passed over. On a refusal 0 */
+#define PIM_READING_OFFSET 2     /* on a refusal, where the failing element begins; see below. Else 0 */
+#define PIM_READING_IN_WRAPPER 3 /* 1 where that is counted from the wrapper, else 0 */
+#define PIM_READING_LEN 4
+
+/*
+ * Where a reading was refused. In the data (PIM_READING_IN_WRAPPER is 0) it is a bit's offset, from the data's first bit on,
+ * which is 0; the wrapper is not counted, nor is anything before it in a unit, nor its emulation prevention bytes:
+ *
+ *   4, 5, 6               the first bit of that number's code
+ *   1, 2                  the first bit of the element that is cut off or too long: a code, a flag, a level, a field. Each
+ *                         zero bit and each bit of a reserved block is an element of its own, so that a missing one is told
+ *                         at the data's end
+ *   7                     the zero bit that is a one
+ *   9, 10, 11, 17, 18, 19 the first bit of the block's ext_block_length
+ *   12                    the first bit of the bytes that remain
+ *
+ * In the wrapper (PIM_READING_IN_WRAPPER is 1; 3, and 1 where one of its eight bytes is missing) it is that byte's offset, 0
+ * to 7. A refusal that is about no element has no place, and 0 in both: 13, and 30 to 33 of a unit.
+ */
 
 /* So many bytes always suffice to write a unit. A unit that is read has at most PIM_UNIT_LIMIT, as it arrives. */
 #define PIM_UNIT_BYTES 354
@@ -106,7 +124,7 @@ enum {
     PIM_LENGTH = 9,         /* length is not the level's, or that of a reserved block is above 1,023; whether the content is
                                there or not */
     PIM_ORDER = 10,         /* level 1 not in order min <= avg <= max */
-    PIM_REPEAT = 11,        /* second level 1, second level 5, 17th level 2, or a target_max_PQ already met */
+    PIM_REPEAT = 11,        /* a target_max_PQ already met */
     PIM_BYTES_REMAIN = 12,  /* bytes remain after the data */
     PIM_SHORT = 13,         /* output shorter than needed, or a result table that has not exactly 64 entries; and here, before
                                everything else, any record, facts of a reading, block or table that has not exactly its
@@ -116,6 +134,9 @@ enum {
     PIM_MANY_POINTS = 15,   /* a join has more than 64 different numbers */
     PIM_NOT_TRACK = 16,     /* not a track: count above 64, numbers not rising, or a point's record not valid with flag 1 (a
                                table that has not exactly 64 entries is refused with 13 here) */
+    PIM_SECOND_LEVEL_1 = 17,
+    PIM_SECOND_LEVEL_5 = 18,
+    PIM_SEVENTEENTH_LEVEL_2 = 19, /* whether its target_max_PQ was met or not */
     PIM_UNIT_HEADER = 30,   /* unit shorter than two bytes or above 4,096, first header bit set, temporal id plus one of 0, or
                                another type */
     PIM_EMULATION = 31,     /* two zero bytes followed by 00, 01 or 02, or by 03 and then a byte above 03 */
@@ -126,9 +147,9 @@ enum {
 
 /*
  * Read a payload of n bytes, bare or behind the eight wrapper bytes. Done: the record of its known blocks, and the facts of
- * the reading. Refused: 13 if record_len is not PIM_RECORD_LEN or reading_len is not PIM_READING_LEN; else 1 to 7 or 9 to
- * 12, by the first failure from left to right. On every refusal the record stays as it was, and reading is all zeros; only
- * where reading_len is not PIM_READING_LEN it stays as it was too.
+ * the reading. Refused: 13 if record_len is not PIM_RECORD_LEN or reading_len is not PIM_READING_LEN; else 1 to 7, 9 to 12 or
+ * 17 to 19, by the first failure from left to right; after a block 10 comes before 17 to 19, and 19 before 11. On every refusal
+ * the record stays as it was, and reading says where; only where reading_len is not PIM_READING_LEN it stays as it was too.
  */
 uint32_t pim_read_bare(const uint8_t *in, size_t n, int32_t *record, size_t record_len, uint32_t *reading, size_t reading_len);
 uint32_t pim_read_wrapped(const uint8_t *in, size_t n, int32_t *record, size_t record_len, uint32_t *reading,
@@ -147,8 +168,8 @@ uint32_t pim_write_wrapped(const int32_t *record, size_t record_len, uint8_t *ou
  * The first message of type 4 that begins with the eight wrapper bytes is read as pim_read_wrapped reads it, and the others
  * are passed over. Done: the record, and the facts of the reading of that message's data; only blocks count as passed over
  * there, not messages. Refused: 13 if record_len is not PIM_RECORD_LEN or reading_len is not PIM_READING_LEN; else 30, then
- * 31, then 32, then 33, each over the whole unit; else 1, 2, 4 to 7 or 9 to 12, by that message. A refusal leaves record and
- * reading as one of pim_read_wrapped does.
+ * 31, then 32, then 33, each over the whole unit; else 1, 2, 4 to 7, 9 to 12 or 17 to 19, by that message's data. A refusal
+ * leaves record and reading as one of pim_read_wrapped does.
  */
 uint32_t pim_read_unit(const uint8_t *in, size_t n, int32_t *record, size_t record_len, uint32_t *reading, size_t reading_len);
 

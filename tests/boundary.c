@@ -34,10 +34,31 @@ static void fill_facts(void)
         facts[i] = 7;
 }
 
-static int facts_are(uint32_t bits, uint32_t skipped)
+static int facts_are(uint32_t bits, uint32_t skipped, uint32_t offset, uint32_t in_wrapper)
 {
     return facts[0] == 7 && reading[PIM_READING_BITS] == bits && reading[PIM_READING_SKIPPED] == skipped &&
-           facts[PIM_READING_LEN + 1] == 7;
+           reading[PIM_READING_OFFSET] == offset && reading[PIM_READING_IN_WRAPPER] == in_wrapper && facts[PIM_READING_LEN + 1] == 7;
+}
+
+/* Of an accepted reading; of a refusal in the data, at a bit; of one without a place. */
+static int read_bits(uint32_t bits, uint32_t skipped)
+{
+    return facts_are(bits, skipped, 0, 0);
+}
+
+static int refused_at(uint32_t offset)
+{
+    return facts_are(0, 0, offset, 0);
+}
+
+static int refused_without_a_place(void)
+{
+    return facts_are(0, 0, 0, 0);
+}
+
+static int facts_as_they_were(void)
+{
+    return facts_are(7, 7, 7, 7);
 }
 
 static void reading_and_writing(void)
@@ -50,10 +71,10 @@ static void reading_and_writing(void)
     expect(memcmp(bytes, "\xB5\x00\x31\x47\x41\x39\x34\x09", 8) == 0 && memcmp(bytes + 8, payload, sizeof payload) == 0, "the payload");
     expect(pim_read_wrapped(bytes, written, record, PIM_RECORD_LEN, reading, PIM_READING_LEN) == 0, "read wrapped");
     expect(memcmp(record, two_blocks, sizeof record) == 0, "what was written is read");
-    expect(facts_are(8 * (written - 8), 0), "bits read, without the wrapper, and nothing passed over");
+    expect(read_bits(8 * (written - 8), 0), "bits read, without the wrapper, and nothing passed over");
     fill_facts();
     expect(pim_read_bare(bytes + 8, written - 8, record, PIM_RECORD_LEN, reading, PIM_READING_LEN) == 0, "read bare");
-    expect(facts_are(8 * (written - 8), 0), "the same bits");
+    expect(read_bits(8 * (written - 8), 0), "the same bits");
     memcpy(old_bytes, bytes, sizeof bytes);
     expect(pim_write_bare(two_blocks, PIM_RECORD_LEN, bytes, sizeof bytes, &written) == 0, "write bare");
     expect(memcmp(bytes, old_bytes + 8, written) == 0, "the same data bare");
@@ -62,7 +83,7 @@ static void reading_and_writing(void)
     memcpy(old_record, record, sizeof record);
     fill_facts();
     expect(pim_read_bare(bytes, written - 1, record, PIM_RECORD_LEN, reading, PIM_READING_LEN) == 1, "a byte is missing");
-    expect(facts_are(0, 0), "the facts of a refused reading are zeros");
+    expect(refused_at(148), "a refused reading says where, and its other facts are zeros");
     expect(memcmp(record, old_record, sizeof record) == 0, "and the record stays as it was");
 }
 
@@ -74,19 +95,21 @@ static void wrong_lengths(reader *read, const uint8_t *in, size_t n)
     memset(record, 0x5A, sizeof record);
     memcpy(old_record, record, sizeof record);
     fill_facts();
-    expect(read(in, n, record, PIM_RECORD_LEN - 1, reading, PIM_READING_LEN) == PIM_SHORT && facts_are(0, 0), "145 numbers of a record");
+    expect(read(in, n, record, PIM_RECORD_LEN - 1, reading, PIM_READING_LEN) == PIM_SHORT && refused_without_a_place(), "145 numbers of a record");
     fill_facts();
-    expect(read(in, n, record, 0, reading, PIM_READING_LEN) == PIM_SHORT && facts_are(0, 0), "no numbers of a record");
+    expect(read(in, n, record, 0, reading, PIM_READING_LEN) == PIM_SHORT && refused_without_a_place(), "no numbers of a record");
     fill_facts();
-    expect(read(in, n, record, PIM_RECORD_LEN, reading, PIM_READING_LEN - 1) == PIM_SHORT && facts_are(7, 7), "a fact too few");
-    expect(read(in, n, record, PIM_RECORD_LEN, reading, PIM_READING_LEN + 1) == PIM_SHORT && facts_are(7, 7), "a fact too many");
-    expect(read(in, n, record, PIM_RECORD_LEN, reading, 0) == PIM_SHORT && facts_are(7, 7), "no facts");
-    expect(read(in, n, record, PIM_RECORD_LEN - 1, reading, PIM_READING_LEN - 1) == PIM_SHORT && facts_are(7, 7), "both wrong");
+    expect(read(in, n, record, PIM_RECORD_LEN, reading, PIM_READING_LEN - 1) == PIM_SHORT && facts_as_they_were(), "a fact too few");
+    expect(read(in, n, record, PIM_RECORD_LEN, reading, PIM_READING_LEN + 1) == PIM_SHORT && facts_as_they_were(), "a fact too many");
+    expect(read(in, n, record, PIM_RECORD_LEN, reading, 0) == PIM_SHORT && facts_as_they_were(), "no facts");
+    expect(read(in, n, record, PIM_RECORD_LEN - 1, reading, PIM_READING_LEN - 1) == PIM_SHORT && facts_as_they_were(), "both wrong");
     expect(memcmp(record, old_record, sizeof record) == 0, "a wrong length leaves the record as it was");
 }
 
-/* Read a bare payload, the same wrapped, and the same in a unit that needs no 03: the result, the bits read, the blocks passed over. */
-static void reads(const uint8_t *data, size_t n, const int32_t *expected, uint32_t result, uint32_t bits, uint32_t skipped, const char *what)
+/* Read a bare payload, the same wrapped, and the same in a unit that needs no 03: the result, the bits read, the blocks passed over, and
+   where, of a refusal. */
+static void reads(const uint8_t *data, size_t n, const int32_t *expected, uint32_t result, uint32_t bits, uint32_t skipped, uint32_t offset,
+                  const char *what)
 {
     static const uint8_t before[] = {0x4E, 0x01, 0x04, 0x00, 0xB5, 0x00, 0x31, 0x47, 0x41, 0x39, 0x34, 0x09};
     memcpy(bytes, before, sizeof before);
@@ -100,7 +123,7 @@ static void reads(const uint8_t *data, size_t n, const int32_t *expected, uint32
         uint32_t answer = i == 0   ? pim_read_bare(data, n, record, PIM_RECORD_LEN, reading, PIM_READING_LEN)
                           : i == 1 ? pim_read_wrapped(bytes + 4, 8 + n, record, PIM_RECORD_LEN, reading, PIM_READING_LEN)
                                    : pim_read_unit(bytes, sizeof before + n + 1, record, PIM_RECORD_LEN, reading, PIM_READING_LEN);
-        expect(answer == result && facts_are(bits, skipped), what);
+        expect(answer == result && facts_are(bits, skipped, offset, 0), what);
         expect(memcmp(record, result == 0 ? expected : old_record, sizeof record) == 0, what);
     }
 }
@@ -115,16 +138,16 @@ static const uint8_t without_them[] = {0x5A, 0x30, 0x08, 0x00, 0x60, 0x02, 0x00,
 static void reserved_blocks(void)
 {
     uint32_t written = 7;
-    reads(skipped_one, sizeof skipped_one, no_blocks, PIM_DONE, 24, 1, "a reserved block alone");
-    reads(skipped_two, sizeof skipped_two, one_block, PIM_DONE, 104, 2, "reserved blocks around a known one");
-    reads(without_them, sizeof without_them, one_block, PIM_DONE, 64, 0, "the known one alone has the same record");
-    reads(skipped_one, sizeof skipped_one - 1, NULL, PIM_PAST_END, 0, 0, "a level without its last bit");
-    reads(skipped_two, 4, NULL, PIM_PAST_END, 0, 0, "a content that is cut short");
-    reads((const uint8_t[]){0x58, 0x50}, 2, NULL, PIM_PAST_END, 0, 0, "19 blocks announced, and none there");
-    reads((const uint8_t[]){0x58, 0x0F, 0xF0}, 3, NULL, PIM_PAST_END, 0, 0, "254 announced");
-    reads((const uint8_t[]){0x58, 0x04, 0x00}, 3, NULL, PIM_MANY_BLOCKS, 0, 0, "255 announced");
-    reads((const uint8_t[]){0x5A, 0x00, 0x20, 0x08, 0x18}, 5, NULL, PIM_LENGTH, 0, 0, "a length of 1,024, before the content");
-    reads((const uint8_t[]){0x5A, 0x00, 0x20, 0x00, 0x18}, 5, NULL, PIM_PAST_END, 0, 0, "a length of 1,023, and no content");
+    reads(skipped_one, sizeof skipped_one, no_blocks, PIM_DONE, 24, 1, 0, "a reserved block alone");
+    reads(skipped_two, sizeof skipped_two, one_block, PIM_DONE, 104, 2, 0, "reserved blocks around a known one");
+    reads(without_them, sizeof without_them, one_block, PIM_DONE, 64, 0, 0, "the known one alone has the same record");
+    reads(skipped_one, sizeof skipped_one - 1, NULL, PIM_PAST_END, 0, 0, 9, "a level without its last bit");
+    reads(skipped_two, 4, NULL, PIM_PAST_END, 0, 0, 32, "a content that is cut short");
+    reads((const uint8_t[]){0x58, 0x50}, 2, NULL, PIM_PAST_END, 0, 0, 16, "19 blocks announced, and none there");
+    reads((const uint8_t[]){0x58, 0x0F, 0xF0}, 3, NULL, PIM_PAST_END, 0, 0, 24, "254 announced");
+    reads((const uint8_t[]){0x58, 0x04, 0x00}, 3, NULL, PIM_MANY_BLOCKS, 0, 0, 5, "255 announced");
+    reads((const uint8_t[]){0x5A, 0x00, 0x20, 0x08, 0x18}, 5, NULL, PIM_LENGTH, 0, 0, 8, "a length of 1,024, before the content");
+    reads((const uint8_t[]){0x5A, 0x00, 0x20, 0x00, 0x18}, 5, NULL, PIM_PAST_END, 0, 0, 40, "a length of 1,023, and no content");
     expect(pim_read_bare(skipped_two, sizeof skipped_two, record, PIM_RECORD_LEN, reading, PIM_READING_LEN) == 0, "read, to be written");
     expect(pim_write_bare(record, PIM_RECORD_LEN, bytes, sizeof bytes, &written) == 0, "what is written of it");
     expect(written == sizeof without_them && memcmp(bytes, without_them, written) == 0, "has no reserved blocks");
@@ -136,16 +159,16 @@ static void big_numbers(void)
     static const struct {
         uint8_t data[10];
         size_t n;
-        uint32_t result;
+        uint32_t result, offset;
         const char *what;
     } cases[] = {
-        {{0x00, 0x00, 0x00, 0x01, 0xFF, 0xFF, 0xFF, 0xFE}, 8, PIM_IDENTIFIER, "the largest app_identifier"},
-        {{0x40, 0x00, 0x00, 0x00, 0x3F, 0xFF, 0xFF, 0xFF, 0xC0}, 9, PIM_VERSION, "the largest app_version"},
-        {{0x58, 0x00, 0x00, 0x00, 0x0F, 0xFF, 0xFF, 0xFF, 0xF0}, 9, PIM_MANY_BLOCKS, "the largest num_ext_blocks"},
-        {{0x5A, 0x00, 0x00, 0x00, 0x01, 0xFF, 0xFF, 0xFF, 0xFE, 0x02}, 10, PIM_LENGTH, "the largest ext_block_length, of level 1"},
-        {{0x5A, 0x00, 0x00, 0x00, 0x01, 0xFF, 0xFF, 0xFF, 0xFE}, 9, PIM_PAST_END, "and without its level"},
-        {{0x00, 0x00, 0x00, 0x00}, 4, PIM_LONG_CODE, "a 32nd zero"},
-        {{0x00, 0x00}, 2, PIM_PAST_END, "sixteen zeros, and no more"},
+        {{0x00, 0x00, 0x00, 0x01, 0xFF, 0xFF, 0xFF, 0xFE}, 8, PIM_IDENTIFIER, 0, "the largest app_identifier"},
+        {{0x40, 0x00, 0x00, 0x00, 0x3F, 0xFF, 0xFF, 0xFF, 0xC0}, 9, PIM_VERSION, 3, "the largest app_version"},
+        {{0x58, 0x00, 0x00, 0x00, 0x0F, 0xFF, 0xFF, 0xFF, 0xF0}, 9, PIM_MANY_BLOCKS, 5, "the largest num_ext_blocks"},
+        {{0x5A, 0x00, 0x00, 0x00, 0x01, 0xFF, 0xFF, 0xFF, 0xFE, 0x02}, 10, PIM_LENGTH, 8, "the largest ext_block_length, of level 1"},
+        {{0x5A, 0x00, 0x00, 0x00, 0x01, 0xFF, 0xFF, 0xFF, 0xFE}, 9, PIM_PAST_END, 71, "and without its level"},
+        {{0x00, 0x00, 0x00, 0x00}, 4, PIM_LONG_CODE, 0, "a 32nd zero"},
+        {{0x00, 0x00}, 2, PIM_PAST_END, 0, "sixteen zeros, and no more"},
     };
     static const uint8_t wrapper[] = {0xB5, 0x00, 0x31, 0x47, 0x41, 0x39, 0x34, 0x09};
     memcpy(bytes, wrapper, sizeof wrapper);
@@ -153,9 +176,64 @@ static void big_numbers(void)
         memcpy(bytes + 8, cases[i].data, cases[i].n);
         memset(record, 0x5A, sizeof record);
         memcpy(old_record, record, sizeof record);
+        fill_facts();
         expect(pim_read_bare(bytes + 8, cases[i].n, record, PIM_RECORD_LEN, reading, PIM_READING_LEN) == cases[i].result, cases[i].what);
         expect(pim_read_wrapped(bytes, 8 + cases[i].n, record, PIM_RECORD_LEN, reading, PIM_READING_LEN) == cases[i].result, cases[i].what);
-        expect(facts_are(0, 0) && memcmp(record, old_record, sizeof record) == 0, cases[i].what);
+        expect(refused_at(cases[i].offset) && memcmp(record, old_record, sizeof record) == 0, cases[i].what);
+    }
+}
+
+/* The wrapper cut behind n bytes, and with byte n changed: told by that byte, and marked. With all eight bytes it is the data that is missing. */
+static void in_the_wrapper(void)
+{
+    for (uint32_t n = 0; n <= 8; n++) {
+        memcpy(bytes, "\xB5\x00\x31\x47\x41\x39\x34\x09\x50", 9);
+        fill_facts();
+        expect(pim_read_wrapped(bytes, n, record, PIM_RECORD_LEN, reading, PIM_READING_LEN) == PIM_PAST_END, "a wrapper that is cut off");
+        expect(n < 8 ? facts_are(0, 0, n, 1) : refused_at(0), "at the byte that is missing");
+        bytes[n] ^= 0x01;
+        fill_facts();
+        expect(pim_read_wrapped(bytes, 9, record, PIM_RECORD_LEN, reading, PIM_READING_LEN) == (n < 8 ? PIM_WRAPPER : PIM_ZERO_BIT), "a wrong byte");
+        expect(n < 8 ? facts_are(0, 0, n, 1) : refused_at(7), "at that byte");
+    }
+}
+
+/* A second level 1, a second level 5, a seventeenth level 2 whose target_max_PQ is new or not, and a target_max_PQ already met. */
+static void repeats(void)
+{
+    static const struct {
+        int level, blocks, other;
+        uint32_t result, offset;
+    } cases[] = {
+        {1, 2, 0, PIM_SECOND_LEVEL_1, 8 + 53},
+        {5, 2, 0, PIM_SECOND_LEVEL_5, 8 + 71},
+        {2, 17, 16, PIM_SEVENTEENTH_LEVEL_2, 16 + 16 * 103},
+        {2, 17, 0, PIM_SEVENTEENTH_LEVEL_2, 16 + 16 * 103},
+        {2, 16, 0, PIM_REPEAT, 16 + 15 * 103},
+    };
+    static const struct {
+        uint32_t code;
+        int code_bits, content_bits;
+    } levels[] = {{0, 0, 0}, {6, 5, 40}, {12, 7, 88}, {0, 0, 0}, {0, 0, 0}, {8, 7, 56}};
+    for (size_t i = 0; i < sizeof cases / sizeof cases[0]; i++) {
+        int level = cases[i].level, blocks = cases[i].blocks;
+        size_t at = blocks == 2 ? 8 : 16;
+        memset(bytes, 0, sizeof bytes);
+        /* 010 1 1, then the code of the number of blocks: 011, 000010001 or 000010010 */
+        bytes[0] = blocks == 2 ? 0x5B : 0x58;
+        bytes[1] = blocks == 2 ? 0 : blocks == 16 ? 0x44 : 0x48;
+        for (int block = 0; block < blocks; block++) {
+            uint64_t head = (uint64_t)levels[level].code << 8 | (uint64_t)level;
+            uint32_t first_field = level == 2 ? (block == blocks - 1 ? (uint32_t)cases[i].other : (uint32_t)block) : 0;
+            int head_bits = levels[level].code_bits + 8;
+            head = head << 12 | first_field;
+            for (int bit = head_bits + 11; bit >= 0; bit--, at++)
+                bytes[at / 8] |= (head >> bit & 1) << (7 - at % 8);
+            at += levels[level].content_bits - 12;
+        }
+        fill_facts();
+        expect(pim_read_bare(bytes, (at + 7) / 8, record, PIM_RECORD_LEN, reading, PIM_READING_LEN) == cases[i].result, "a repeat");
+        expect(refused_at(cases[i].offset), "at the length of its block");
     }
 }
 
@@ -178,10 +256,11 @@ static void longest_payload(void)
     expect(at == 8 * (size_t)PIM_LONGEST_BARE, "the bits of the longest payload");
     fill_facts();
     expect(pim_read_bare(longest, PIM_LONGEST_BARE, record, PIM_RECORD_LEN, reading, PIM_READING_LEN) == 0, "the longest payload");
-    expect(facts_are(2086128, 254) && memcmp(record, no_blocks, sizeof record) == 0, "its facts and its record");
+    expect(read_bits(2086128, 254) && memcmp(record, no_blocks, sizeof record) == 0, "its facts and its record");
     expect(pim_read_bare(longest, PIM_LONGEST_BARE - 1, record, PIM_RECORD_LEN, reading, PIM_READING_LEN) == PIM_PAST_END, "a byte less");
-    expect(facts_are(0, 0), "zeros again");
+    expect(refused_at(8 * (PIM_LONGEST_BARE - 1)), "at the first bit of its last content that is missing");
     expect(pim_read_bare(longest, PIM_LONGEST_BARE + 1, record, PIM_RECORD_LEN, reading, PIM_READING_LEN) == PIM_BYTES_REMAIN, "a byte more");
+    expect(refused_at(8 * PIM_LONGEST_BARE), "at the byte that is left over");
     expect(PIM_LONGEST_WRAPPED == 8 + PIM_LONGEST_BARE, "the longest wrapped payload");
 }
 
@@ -203,10 +282,10 @@ static void units(void)
     expect(written == sizeof unit && memcmp(bytes, unit, sizeof unit) == 0, "the unit");
     expect(bytes[written] == 0xEE, "later bytes stay");
     expect(pim_read_unit(bytes, written, record, PIM_RECORD_LEN, reading, PIM_READING_LEN) == 0, "read a unit");
-    expect(memcmp(record, two_blocks, sizeof record) == 0 && facts_are(8 * sizeof payload, 0), "what was written is read");
+    expect(memcmp(record, two_blocks, sizeof record) == 0 && read_bits(8 * sizeof payload, 0), "what was written is read");
     expect(pim_write_unit(three_zeros, PIM_RECORD_LEN, bytes, sizeof escaped, &written) == 0, "room for exactly the unit");
     expect(written == sizeof escaped && memcmp(bytes, escaped, sizeof escaped) == 0, "emulation prevention");
-    expect(pim_read_unit(bytes, written, record, PIM_RECORD_LEN, reading, PIM_READING_LEN) == 0 && facts_are(64, 0), "and what it hides");
+    expect(pim_read_unit(bytes, written, record, PIM_RECORD_LEN, reading, PIM_READING_LEN) == 0 && read_bits(64, 0), "and what it hides");
     expect(memcmp(record, three_zeros, sizeof record) == 0, "its record");
 
     /* As many blocks as a record holds, as many zeros as they have: level 1, sixteen of level 2 and level 5. */
@@ -221,7 +300,7 @@ static void units(void)
     expect(pim_write_unit(record, PIM_RECORD_LEN, bytes, PIM_UNIT_BYTES, &written) == 0, "354 bytes suffice");
     expect(written > PIM_WRAPPED_BYTES + 5 && written <= PIM_UNIT_BYTES && bytes[written] == 0xEE, "a long unit");
     expect(pim_read_unit(bytes, written, record, PIM_RECORD_LEN, reading, PIM_READING_LEN) == 0, "which is read");
-    expect(memcmp(record, old_record, sizeof record) == 0 && facts_are(8 * PIM_BARE_BYTES, 0), "to the same record");
+    expect(memcmp(record, old_record, sizeof record) == 0 && read_bits(8 * PIM_BARE_BYTES, 0), "to the same record");
 
     memcpy(old_bytes, bytes, sizeof bytes);
     memcpy(record, three_zeros, sizeof record);
@@ -233,8 +312,8 @@ static void units(void)
     expect(memcmp(bytes, old_bytes, sizeof bytes) == 0 && written == 7, "a refused unit leaves all as it was");
 }
 
-/* The unit with one byte changed, and cut to n bytes. */
-static void refused_unit(size_t place, uint8_t byte, size_t n, uint32_t refusal, const char *what)
+/* The unit with one byte changed, and cut to n bytes: refused, in the data at a bit, or else without a place. */
+static void refused_unit(size_t place, uint8_t byte, size_t n, uint32_t refusal, uint32_t offset, const char *what)
 {
     fill_facts();
     memcpy(bytes, unit, sizeof unit);
@@ -242,10 +321,10 @@ static void refused_unit(size_t place, uint8_t byte, size_t n, uint32_t refusal,
     memset(record, 0x5A, sizeof record);
     memcpy(old_record, record, sizeof record);
     memcpy(old_bytes, bytes, sizeof bytes);
-    expect(pim_read_unit(bytes, n, record, PIM_RECORD_LEN, reading, PIM_READING_LEN) == refusal && facts_are(0, 0), what);
+    expect(pim_read_unit(bytes, n, record, PIM_RECORD_LEN, reading, PIM_READING_LEN) == refusal && refused_at(offset), what);
     fill_facts();
     expect(pim_read_unit(bytes, n, record, PIM_RECORD_LEN + 1, reading, PIM_READING_LEN) == PIM_SHORT, "147 numbers, before everything");
-    expect(facts_are(0, 0), "the facts of a refused reading of a unit are zeros");
+    expect(refused_without_a_place(), "which has no place");
     expect(memcmp(record, old_record, sizeof record) == 0, "and the record stays as it was");
     expect(memcmp(bytes, old_bytes, sizeof bytes) == 0, "and what is read is not written");
 }
@@ -268,7 +347,7 @@ static void longest_unit(size_t n, uint32_t result)
     }
     memcpy(bytes + at, unit + 2, left);
     expect(pim_read_unit(bytes, n, record, PIM_RECORD_LEN, reading, PIM_READING_LEN) == result, "a unit of the most bytes, or above");
-    expect(result != 0 || (facts_are(8 * sizeof payload, 0) && memcmp(record, two_blocks, sizeof record) == 0), "its last message");
+    expect(result != 0 || (read_bits(8 * sizeof payload, 0) && memcmp(record, two_blocks, sizeof record) == 0), "its last message");
 }
 
 /* The row differs from two_blocks at one place: it names no record, or one that is not valid. */
@@ -337,6 +416,8 @@ int main(void)
     wrong_lengths(pim_read_unit, unit, sizeof unit);
     reserved_blocks();
     big_numbers();
+    in_the_wrapper();
+    repeats();
     longest_payload();
     refused(0, 2, "a refresh flag of 2");
     refused(1, 256, "a count that is no uint8_t");
@@ -347,16 +428,17 @@ int main(void)
     refused(PIM_PLACE(0) + 4, 1, "an unused number that is not 0");
     refused(PIM_PLACE(17) + 7, 1, "an unused number of a place that holds nothing");
     units();
-    refused_unit(0, 0x4E, 1, PIM_UNIT_HEADER, "a unit of one byte");
-    refused_unit(0, 0xCE, sizeof unit, PIM_UNIT_HEADER, "the first header bit");
-    refused_unit(0, 0x4C, sizeof unit, PIM_UNIT_HEADER, "type 38");
-    refused_unit(1, 0x00, sizeof unit, PIM_UNIT_HEADER, "a temporal id plus one of 0");
-    refused_unit(20, 0x01, sizeof unit, PIM_EMULATION, "a start code");
-    refused_unit(0, 0x4E, sizeof unit - 1, PIM_MESSAGES, "no end");
-    refused_unit(3, 0x1E, sizeof unit, PIM_MESSAGES, "a size that takes the end");
-    refused_unit(2, 0x05, sizeof unit, PIM_NOT_OURS, "another type of message");
-    refused_unit(11, 0x03, sizeof unit, PIM_NOT_OURS, "another wrapper");
-    refused_unit(12, 0x3B, sizeof unit, PIM_IDENTIFIER, "an app_identifier of 6: document 01's refusals come last");
+    refused_unit(0, 0x4E, 1, PIM_UNIT_HEADER, 0, "a unit of one byte");
+    refused_unit(0, 0xCE, sizeof unit, PIM_UNIT_HEADER, 0, "the first header bit");
+    refused_unit(0, 0x4C, sizeof unit, PIM_UNIT_HEADER, 0, "type 38");
+    refused_unit(1, 0x00, sizeof unit, PIM_UNIT_HEADER, 0, "a temporal id plus one of 0");
+    refused_unit(20, 0x01, sizeof unit, PIM_EMULATION, 0, "a start code");
+    refused_unit(0, 0x4E, sizeof unit - 1, PIM_MESSAGES, 0, "no end");
+    refused_unit(3, 0x1E, sizeof unit, PIM_MESSAGES, 0, "a size that takes the end");
+    refused_unit(2, 0x05, sizeof unit, PIM_NOT_OURS, 0, "another type of message");
+    refused_unit(11, 0x03, sizeof unit, PIM_NOT_OURS, 0, "another wrapper");
+    refused_unit(12, 0x3B, sizeof unit, PIM_IDENTIFIER, 0, "an app_identifier of 6: document 01's refusals come last");
+    refused_unit(32, 0x81, sizeof unit, PIM_ZERO_BIT, 167, "the last bit of the data");
     longest_unit(PIM_UNIT_LIMIT - 1, PIM_DONE);
     longest_unit(PIM_UNIT_LIMIT, PIM_DONE);
     longest_unit(PIM_UNIT_LIMIT + 1, PIM_UNIT_HEADER);

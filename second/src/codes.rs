@@ -1,12 +1,15 @@
 //! Numbers of ue(v) codes, small and big, at each of the four places that have one:
 //! 02's request d. What a payload must get follows from the place and the number,
-//! and what a cut of it must get from where the cut is.
+//! and what a cut of it must get from where the cut is. Every refusal stands where
+//! the code begins.
 
 use crate::compare::Compare;
-use crate::made::{block_plan, blocks, bytes_of, holding, own_length, plan, random_bytes};
-use crate::made::{reserved, reserved_level, ue, BlockPlan, Code, Plan, Rng, LARGEST};
+use crate::made::{blocks, holding, random_bytes, reserved_level, Rng};
+use crate::plan::{block_plan, own_length, plan, plan_with, reserved, ue};
+use crate::plan::{Answer, BlockPlan, Code, Plan, LARGEST};
+use crate::reader::Refusal;
 use crate::record::{Block, Record};
-use crate::reserved::{accepted, bits_before, plan_with, refused};
+use crate::reserved::{accepted, bits_before, refused};
 use crate::runs::{expect, rng};
 
 /// Both ends of each place's range and the numbers beside them, the ends of 8, 16,
@@ -62,12 +65,13 @@ enum Place {
     ExtBlockLength(u32, usize),
 }
 
-/// A payload, the bit at which the code in question begins, and what follows from
-/// it: the refusal and how many bits decide it, or the record and the number of
-/// blocks passed over.
+/// A payload, the bits at which the code in question begins and ends, and what
+/// follows from it: the refusal and how many bits decide it, or the record and the
+/// number of blocks passed over.
 struct Made {
     plan: Plan,
     begins: usize,
+    ends: usize,
     outcome: Result<(Record, usize), (u32, usize)>,
 }
 
@@ -136,17 +140,18 @@ fn made(rng: &mut Rng, place: Place, code: Code, number: Option<u32>) -> Made {
             (begins, number.filter(|_| !own).map(|_| 9))
         }
     };
-    let width = 2 * code.zeros as usize + 1;
+    let ends = begins + 2 * code.zeros as usize + 1;
     let outcome = match (number, wrong) {
         (None, _) => Err((2, begins + 32)),
         (Some(_), None) => Ok((record, skipped)),
         // A length is judged when its level is known.
-        (Some(_), Some(9)) => Err((9, begins + width + 8)),
-        (Some(_), Some(refusal)) => Err((refusal, begins + width)),
+        (Some(_), Some(9)) => Err((9, ends + 8)),
+        (Some(_), Some(refusal)) => Err((refusal, ends)),
     };
     Made {
         plan,
         begins,
+        ends,
         outcome,
     }
 }
@@ -154,19 +159,22 @@ fn made(rng: &mut Rng, place: Place, code: Code, number: Option<u32>) -> Made {
 /// The payload, bare and wrapped, and every cut of it near the code: 1 before the
 /// bits that decide are there, then what they decide.
 fn compare_one(compare: &mut Compare, one: &Made) -> u64 {
-    let data = bytes_of(&one.plan).0;
-    let (mut cases, decided) = match &one.outcome {
-        Ok((record, skipped)) => (accepted(compare, &data, record, *skipped), None),
-        Err((refusal, bits)) => (refused(compare, &data, *refusal), Some((*refusal, *bits))),
+    let payload = one.plan.payload();
+    let data = &payload.bytes;
+    let mut cases = match &one.outcome {
+        Ok((record, skipped)) => accepted(compare, data, record, *skipped),
+        Err((refusal, _)) => refused(compare, data, *refusal, one.begins),
     };
     let from = one.begins / 8;
     for n in from..data.len().min(from + 20) {
-        let number = match decided {
-            Some((refusal, bits)) if bits <= 8 * n => refusal,
-            _ => 1,
+        let refused_there = |number| Answer::Refused(Refusal::at(number, one.begins));
+        let answer = match one.outcome {
+            Err((refusal, bits)) if bits <= 8 * n => refused_there(refusal),
+            _ if (one.begins..one.ends).contains(&(8 * n)) => refused_there(1),
+            _ => payload.answer_of_cut(n),
         };
-        let answer = compare.read(false, &data[..n]);
-        expect(compare, &data[..n], Some(number), answer);
+        let number = compare.read(false, &data[..n]);
+        expect(compare, &data[..n], answer, number);
         cases += 1;
     }
     cases

@@ -9,8 +9,9 @@
 //! alone must be left alone by the other.
 
 use crate::made::{point_record, Rng};
-use crate::own::{self, BITS, READING, SKIPPED};
+use crate::own::{self, BITS, IN_WRAPPER, OFFSET, READING, SKIPPED};
 use crate::proved;
+use crate::reader::{Refusal, WRAPPER};
 use crate::record::{flat, FLAT, WRAPPED_BYTES};
 use crate::track::{point_from_flat, FLAT_POINT, FLAT_TABLE};
 use crate::writer;
@@ -38,17 +39,19 @@ pub const FUNCTIONS: [(Function, &str, &[u32]); 10] = [
     (
         Function::ReadBare,
         "read_bare",
-        &[0, 1, 2, 4, 5, 6, 7, 9, 10, 11, 12, 13],
+        &[0, 1, 2, 4, 5, 6, 7, 9, 10, 11, 12, 13, 17, 18, 19],
     ),
     (
         Function::ReadWrapped,
         "read_wrapped",
-        &[0, 1, 2, 3, 4, 5, 6, 7, 9, 10, 11, 12, 13],
+        &[0, 1, 2, 3, 4, 5, 6, 7, 9, 10, 11, 12, 13, 17, 18, 19],
     ),
     (
         Function::ReadUnit,
         "read_unit",
-        &[0, 1, 2, 4, 5, 6, 7, 9, 10, 11, 12, 13, 30, 31, 32, 33],
+        &[
+            0, 1, 2, 4, 5, 6, 7, 9, 10, 11, 12, 13, 17, 18, 19, 30, 31, 32, 33,
+        ],
     ),
     (Function::WriteBare, "write_bare", &[0, 13, 14]),
     (Function::WriteWrapped, "write_wrapped", &[0, 13, 14]),
@@ -58,6 +61,26 @@ pub const FUNCTIONS: [(Function, &str, &[u32]); 10] = [
     (Function::Lookup, "lookup", &[0, 13, 16]),
     (Function::Join, "join", &[0, 13, 15, 16]),
 ];
+
+/// Where a refusal is of which that was known beforehand. In a unit it is known from
+/// the reading of the message.
+#[derive(Clone, Copy)]
+pub enum Known {
+    InData,
+    InWrapper,
+    InUnit,
+}
+
+impl Known {
+    /// Of a payload, by its mark.
+    pub fn marked(in_wrapper: bool) -> Known {
+        if in_wrapper {
+            Known::InWrapper
+        } else {
+            Known::InData
+        }
+    }
+}
 
 /// One more than the highest number that a function gives.
 const NUMBERS: usize = 34;
@@ -169,6 +192,8 @@ pub struct Compare {
     /// Readings with reserved blocks whose record, written, was read back to the
     /// same record with none skipped: payloads, and units.
     rewritten: [u64; 2],
+    /// Refusals of which it was known beforehand where, by `Known`.
+    known: [u64; 3],
     /// The part of the run and the case in it, for a failure's report.
     part: String,
     case: u64,
@@ -200,7 +225,7 @@ pub struct Compare {
 /// reserved blocks, can be made again from its part and its call.
 const PRINTED: usize = 5_000;
 
-fn hex(bytes: &[u8]) -> String {
+pub fn hex(bytes: &[u8]) -> String {
     let mut text = String::new();
     for byte in bytes.iter().take(PRINTED) {
         text.push_str(&format!("{:02X} ", byte));
@@ -217,6 +242,65 @@ fn read_function(wrapped: bool) -> Function {
     } else {
         Function::ReadBare
     }
+}
+
+/// The facts that an answer has: an accepted reading its bits and blocks passed over,
+/// a refused one its place, which 13 and the unit's own refusals have not.
+fn facts_given(number: u32) -> &'static [usize] {
+    match number {
+        0 => &[BITS, SKIPPED],
+        13 | 30..=33 => &[],
+        _ => &[OFFSET, IN_WRAPPER],
+    }
+}
+
+/// The n bits of the data from this one on, or none where they are not all there.
+fn bits_at(data: &[u8], at: usize, n: usize) -> Option<u64> {
+    let mut number = 0;
+    for bit in at..at + n {
+        let byte = data.get(bit / 8)?;
+        number = 2 * number + (byte >> (7 - bit % 8) & 1) as u64;
+    }
+    Some(number)
+}
+
+/// What must be so where a refusal stands, by its number: all of it in the wrapper, and
+/// in the data as far as it can be said without a reading of what comes before. The
+/// data of a unit is not at hand.
+fn place_fits(function: Function, input: &[u8], refusal: &Refusal) -> bool {
+    let data = match function {
+        Function::ReadUnit => None,
+        Function::ReadWrapped => {
+            let differs = (0..WRAPPER.len()).find(|&i| input.get(i) != Some(&WRAPPER[i]));
+            if let Some(byte) = differs {
+                let number = if byte < input.len() { 3 } else { 1 };
+                return *refusal == Refusal::in_wrapper(number, byte);
+            }
+            Some(&input[WRAPPER.len()..])
+        }
+        _ => Some(input),
+    };
+    let at = refusal.offset as usize;
+    let left = data.map(|data| 8 * data.len() as i64 - at as i64);
+    let bits_are = |n, bits| data.map_or(true, |data| bits_at(data, at, n) == Some(bits));
+    !refusal.in_wrapper
+        && match refusal.number {
+            // An element has 63 bits at most, and one of them at least is missing.
+            1 => left.map_or(true, |left| (0..63).contains(&left)),
+            2 => bits_are(32, 0),
+            4 => at == 0,
+            5 => at == 3,
+            6 => at == 5,
+            7 => bits_are(1, 1),
+            // A length and a level, which in a known block are these.
+            9 => at >= 8 && left.map_or(true, |left| left >= 9),
+            10 | 17 => at >= 8 && bits_are(13, 0b00110_00000001),
+            18 => at >= 8 && bits_are(15, 0b0001000_00000101),
+            11 | 19 => at >= 8 && bits_are(15, 0b0001100_00000010),
+            12 => at % 8 == 0 && left.map_or(true, |left| left >= 8),
+            30..=33 => at == 0,
+            _ => false,
+        }
 }
 
 /// Numbers as they are and as hex words, without the zeros at the end.
@@ -300,6 +384,7 @@ impl Compare {
             placed: [0; 2],
             round_trips: [0; 3],
             rewritten: [0; 2],
+            known: [0; 3],
             part: String::new(),
             case: 0,
             pattern: 1,
@@ -381,6 +466,10 @@ impl Compare {
         self.proved_output[..n + 2 * AROUND].copy_from_slice(&self.own_output[..n + 2 * AROUND]);
     }
 
+    pub fn count_known(&mut self, place: Known) {
+        self.known[place as usize] += 1;
+    }
+
     fn count(&mut self, function: Function, number: u32) {
         self.counts[function as usize][number as usize] += 1;
     }
@@ -404,8 +493,8 @@ impl Compare {
         if number == 0 {
             let mut record = [0; FLAT];
             record.copy_from_slice(self.record());
-            let (bits, skipped) = (self.bits(), self.skipped());
-            if skipped == 0 {
+            let facts = self.own_reading;
+            if self.skipped() == 0 {
                 let answer = self.write_lent(wrapped, &record, input.len());
                 if answer != 0 || self.own_output[AROUND..AROUND + input.len()] != *input {
                     self.fail(
@@ -430,8 +519,7 @@ impl Compare {
                 self.read_back(read_function(wrapped), &record, answer);
                 self.rewritten[0] += 1;
                 self.own_record[AROUND..AROUND + FLAT].copy_from_slice(&record);
-                self.own_reading[AROUND + BITS] = bits;
-                self.own_reading[AROUND + SKIPPED] = skipped;
+                self.own_reading = facts;
             }
         }
         number
@@ -455,6 +543,7 @@ impl Compare {
         let number = self.read_unit_lent(unit, FLAT, READING);
         if number == 0 {
             let (bits, skipped) = (self.bits(), self.skipped());
+            let facts = self.own_reading;
             let mut record = [0; FLAT];
             record.copy_from_slice(self.record());
             let answer = self.write_unit(&record, OUTPUT);
@@ -472,8 +561,7 @@ impl Compare {
                 self.round_trips[2] += 1;
             } else {
                 self.rewritten[1] += 1;
-                self.own_reading[AROUND + BITS] = bits;
-                self.own_reading[AROUND + SKIPPED] = skipped;
+                self.own_reading = facts;
             }
         }
         number
@@ -519,19 +607,25 @@ impl Compare {
         };
         // The reader for speed is held to the plain one.
         let rival_number = self.read_by_rival(function, input, record_len, reading_len);
-        // What the facts of a refused reading must be, without asking either
-        // implementation: zeros, or all as it was where they have not their length.
+        // What the header says of the facts, whoever is asked: as they were where they
+        // have not their length, and otherwise zeros but for those that the answer has.
         let mut facts_after = facts_before;
         if reading_len == READING {
             facts_after[lent_facts].fill(0);
+            for &given in facts_given(own_number) {
+                facts_after[AROUND + given] = self.own_reading[AROUND + given];
+            }
         }
+        let refusal = self.refusal(own_number);
+        let fits = own_number == 0 || own_number == 13 || place_fits(function, input, &refusal);
         if own_number != proved_number
             || self.own_record != self.proved_record
             || self.own_reading != self.proved_reading
             || own_number != rival_number
             || self.own_record != self.rival_record
             || self.own_reading != self.rival_reading
-            || (own_number != 0 && self.proved_reading != facts_after)
+            || self.own_reading != facts_after
+            || !fits
             || self.own_single != self.proved_single
             || self.lent_bytes != input
         {
@@ -558,7 +652,7 @@ impl Compare {
                         &self.own_reading,
                         &self.rival_reading,
                     )
-                    + &self.facts(own_number, proved_number, &facts_after)
+                    + &self.facts(&facts_after, fits)
                     + &changed("the input", input, &self.lent_bytes)),
             );
         }
@@ -584,25 +678,27 @@ impl Compare {
     }
 
     /// What the facts of a reading hold, for a failure's report.
-    fn facts(&self, own_number: u32, proved_number: u32, refused: &[u32; READING_ROOM]) -> String {
+    fn facts(&self, after: &[u32; READING_ROOM], fits: bool) -> String {
         let mut text = String::new();
-        for (name, number, facts) in [
-            ("own", own_number, &self.own_reading),
-            ("proved", proved_number, &self.proved_reading),
+        for (name, facts) in [
+            ("own", &self.own_reading),
+            ("proved", &self.proved_reading),
+            ("rival", &self.rival_reading),
         ] {
-            if number == 0 {
-                text.push_str(&format!(
-                    "  facts of {}: {} bits, {} skipped\n",
-                    name,
-                    facts[AROUND + BITS],
-                    facts[AROUND + SKIPPED]
-                ));
-            } else if facts != refused {
-                text.push_str(&format!(
-                    "  facts of {}: a refusal clears those that have their length, and no others\n",
-                    name
-                ));
-            }
+            text.push_str(&format!(
+                "  facts of {}: {} bits, {} skipped, offset {}, in the wrapper {}\n",
+                name,
+                facts[AROUND + BITS],
+                facts[AROUND + SKIPPED],
+                facts[AROUND + OFFSET],
+                facts[AROUND + IN_WRAPPER]
+            ));
+        }
+        if self.own_reading != *after {
+            text.push_str("  a fact that this answer does not give is not 0, or was not lent\n");
+        }
+        if !fits {
+            text.push_str("  what stands at the offset cannot get this number\n");
         }
         text.push_str(&first_difference(
             "facts",
@@ -626,6 +722,22 @@ impl Compare {
     /// The number of blocks that the last reading passed over.
     pub fn skipped(&self) -> u32 {
         self.own_reading[AROUND + SKIPPED]
+    }
+
+    /// Where the last reading was refused, with this number.
+    pub fn refusal(&self, number: u32) -> Refusal {
+        Refusal {
+            number,
+            offset: self.own_reading[AROUND + OFFSET],
+            in_wrapper: self.own_reading[AROUND + IN_WRAPPER] == 1,
+        }
+    }
+
+    /// The facts of the last reading.
+    pub fn all_facts(&self) -> [u32; READING] {
+        let mut facts = [0; READING];
+        facts.copy_from_slice(&self.own_reading[AROUND..AROUND + READING]);
+        facts
     }
 
     /// The single number of the last call that gave one.
@@ -1134,11 +1246,16 @@ impl Compare {
             "  rewritten without their reserved blocks: {} payloads, {} units",
             self.rewritten[0], self.rewritten[1]
         );
+        println!(
+            "  refusals of which it was known where: {} in the data, {} in the wrapper, {} in units",
+            self.known[0], self.known[1], self.known[2]
+        );
         for count in [
             &self.found[..],
             &self.placed,
             &self.round_trips,
             &self.rewritten,
+            &self.known,
         ] {
             if count.contains(&0) {
                 complete = false;

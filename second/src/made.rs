@@ -1,10 +1,8 @@
 //! Made inputs. Everything comes from a seed, so a case can be made again.
-//!
-//! Payloads are made from a plan: the elements of 01's syntax one after the
-//! other, each of which can be made wrong. The plan has its own bit writer, for
-//! it has to write what `writer.rs` must never write.
 
-use crate::reader::WRAPPER;
+use crate::plan::{is_reserved, own_length, plan, reserved, ue};
+use crate::plan::{Answer, BlockPlan, Code, Payload, Plan, LARGEST};
+use crate::reader::{Refusal, WRAPPER};
 use crate::record::{flat, Block, Record, EMPTY, FLAT, FLAT_BLOCK, LEVEL_2_BLOCKS, PLACES};
 
 /// splitmix64
@@ -207,237 +205,12 @@ pub fn point_record(rng: &mut Rng) -> Record {
 
 // --------------------------------------------------------------- payloads
 
-/// The largest number of a ue(v) code: 31 zeros, a one, 31 ones.
-pub const LARGEST: u32 = u32::MAX - 1;
-
-/// A ue(v) code by its parts: `zeros` zeros, a one, then as many bits of
-/// `rest`, at most 64.
-#[derive(Clone, Copy)]
-pub struct Code {
-    pub zeros: u32,
-    pub rest: u64,
-}
-
-/// The code of a number up to LARGEST.
-pub fn ue(number: u32) -> Code {
-    let next = number as u64 + 1;
-    let mut zeros = 0;
-    while next >= 2 << zeros {
-        zeros += 1;
-    }
-    Code {
-        zeros,
-        rest: next - (1 << zeros),
-    }
-}
-
 /// A code with a 32nd zero.
 fn long_code(rng: &mut Rng) -> Code {
     Code {
         zeros: rng.pick(&[32, 32, 32, 33, 36, 40, 63, 64]),
         rest: rng.next(),
     }
-}
-
-/// A block of a plan. `one` makes one of its zero bits a one. The content of a
-/// reserved block stands in `fields` too, byte by byte.
-#[derive(Clone)]
-pub struct BlockPlan {
-    pub length: Code,
-    pub level: u32,
-    pub fields: Vec<(u32, u32)>, // value, width
-    pub zeros: usize,
-    pub one: Option<usize>,
-}
-
-#[derive(Clone)]
-pub struct Plan {
-    pub app_identifier: Code,
-    pub app_version: Code,
-    refresh: bool,
-    pub num_ext_blocks: Option<Code>,
-    /// Makes one of the zero bits before the first block a one.
-    pub first_one: Option<usize>,
-    pub blocks: Vec<BlockPlan>,
-    /// Makes one of the zero bits at the end a one.
-    pub last_one: Option<usize>,
-    /// Bytes after the data.
-    pub rest: Vec<u8>,
-}
-
-/// A reserved block with this content.
-pub fn reserved(level: u32, content: &[u8]) -> BlockPlan {
-    BlockPlan {
-        length: ue(content.len() as u32),
-        level,
-        fields: content.iter().map(|&byte| (byte as u32, 8)).collect(),
-        zeros: 0,
-        one: None,
-    }
-}
-
-/// The one length of a known level.
-pub fn own_length(level: u32) -> Option<u32> {
-    match level {
-        1 => Some(5),
-        2 => Some(11),
-        5 => Some(7),
-        _ => None,
-    }
-}
-
-pub fn is_reserved(level: u32) -> bool {
-    own_length(level).is_none()
-}
-
-pub fn block_plan(block: &Block) -> BlockPlan {
-    let (length, level, fields): (u32, u32, Vec<(u32, u32)>) = match *block {
-        Block::Nothing => (0, 0, Vec::new()),
-        Block::Level1 {
-            min_pq,
-            max_pq,
-            avg_pq,
-        } => (
-            5,
-            1,
-            vec![
-                (min_pq as u32, 12),
-                (max_pq as u32, 12),
-                (avg_pq as u32, 12),
-            ],
-        ),
-        Block::Level2 {
-            target_max_pq,
-            trim_slope,
-            trim_offset,
-            trim_power,
-            trim_chroma_weight,
-            trim_saturation_gain,
-            ms_weight,
-        } => (
-            11,
-            2,
-            vec![
-                (target_max_pq as u32, 12),
-                (trim_slope as u32, 12),
-                (trim_offset as u32, 12),
-                (trim_power as u32, 12),
-                (trim_chroma_weight as u32, 12),
-                (trim_saturation_gain as u32, 12),
-                (ms_weight as i32 as u32 & 0x1FFF, 13),
-            ],
-        ),
-        Block::Level5 {
-            left,
-            right,
-            top,
-            bottom,
-        } => (
-            7,
-            5,
-            vec![
-                (left as u32, 13),
-                (right as u32, 13),
-                (top as u32, 13),
-                (bottom as u32, 13),
-            ],
-        ),
-    };
-    let field_bits: u32 = fields.iter().map(|field| field.1).sum();
-    BlockPlan {
-        length: ue(length),
-        level,
-        fields,
-        zeros: (8 * length - field_bits) as usize,
-        one: None,
-    }
-}
-
-pub fn plan(list: &[Block]) -> Plan {
-    Plan {
-        app_identifier: ue(1),
-        app_version: ue(0),
-        refresh: true,
-        num_ext_blocks: Some(ue(list.len() as u32)),
-        first_one: None,
-        blocks: list.iter().map(block_plan).collect(),
-        last_one: None,
-        rest: Vec::new(),
-    }
-}
-
-struct BitString {
-    bytes: Vec<u8>,
-    bits: usize,
-}
-
-impl BitString {
-    fn bit(&mut self, bit: u32) {
-        if self.bits % 8 == 0 {
-            self.bytes.push(0);
-        }
-        if bit == 1 {
-            *self.bytes.last_mut().unwrap() |= 0x80 >> (self.bits % 8);
-        }
-        self.bits += 1;
-    }
-
-    fn number(&mut self, value: u64, width: u32) {
-        for i in (0..width).rev() {
-            self.bit(((value >> i) & 1) as u32);
-        }
-    }
-
-    fn code(&mut self, code: Code) {
-        self.number(0, code.zeros);
-        self.bit(1);
-        self.number(code.rest, code.zeros);
-    }
-
-    /// n zero bits; with `one`, the bit of that place (modulo n) is a one.
-    fn zeros(&mut self, n: usize, one: Option<usize>) {
-        for i in 0..n {
-            let wrong = matches!(one, Some(place) if place % n == i);
-            self.bit(wrong as u32);
-        }
-    }
-
-    fn zeros_to_byte(&mut self, one: Option<usize>) {
-        self.zeros((8 - self.bits % 8) % 8, one);
-    }
-}
-
-/// The bytes of a plan. Also says how many zero bits stand before the first
-/// block and at the end, for a damage there needs at least one.
-pub fn bytes_of(plan: &Plan) -> (Vec<u8>, usize, usize) {
-    let mut string = BitString {
-        bytes: Vec::new(),
-        bits: 0,
-    };
-    string.code(plan.app_identifier);
-    string.code(plan.app_version);
-    string.bit(plan.refresh as u32);
-    if let Some(code) = plan.num_ext_blocks {
-        string.code(code);
-    }
-    let before_first = string.bits;
-    if !plan.blocks.is_empty() {
-        string.zeros_to_byte(plan.first_one);
-    }
-    let first_zeros = string.bits - before_first;
-    for block in &plan.blocks {
-        string.code(block.length);
-        string.number(block.level as u64, 8);
-        for &(value, width) in &block.fields {
-            string.number(value as u64, width);
-        }
-        string.zeros(block.zeros, block.one);
-    }
-    let before_last = string.bits;
-    string.zeros_to_byte(plan.last_one);
-    let last_zeros = string.bits - before_last;
-    string.bytes.extend_from_slice(&plan.rest);
-    (string.bytes, first_zeros, last_zeros)
 }
 
 /// A kind of made payload.
@@ -458,6 +231,7 @@ pub enum Kind {
     SecondLevel5,
     SeventeenthLevel2,
     TargetAgain,
+    SeventeenthTargetAgain,
     Order,
     OrderOfASecondLevel1,
     FirstZeroBit,
@@ -481,7 +255,7 @@ pub enum Kind {
     RandomBytes,
 }
 
-pub const KINDS: [Kind; 36] = [
+pub const KINDS: [Kind; 37] = [
     Kind::Valid,
     Kind::Largest,
     Kind::Cut,
@@ -497,6 +271,7 @@ pub const KINDS: [Kind; 36] = [
     Kind::SecondLevel5,
     Kind::SeventeenthLevel2,
     Kind::TargetAgain,
+    Kind::SeventeenthTargetAgain,
     Kind::Order,
     Kind::OrderOfASecondLevel1,
     Kind::FirstZeroBit,
@@ -521,8 +296,8 @@ pub const KINDS: [Kind; 36] = [
 ];
 
 impl Kind {
-    /// What 01 and 02 answer to every payload of this kind, where that is certain
-    /// from the way it is made.
+    /// What 01 and 02 answer to every payload of this kind, where one number is
+    /// certain. Where it stands follows from the plan.
     pub fn certain(self) -> Option<u32> {
         match self {
             Kind::Valid | Kind::Largest => Some(0),
@@ -540,11 +315,11 @@ impl Kind {
             | Kind::LastZeroBitAndExtended => Some(7),
             Kind::WrongLength | Kind::WrongLengthThenEnd | Kind::ReservedTooLong => Some(9),
             Kind::Order | Kind::OrderOfASecondLevel1 => Some(10),
-            Kind::SecondLevel1
-            | Kind::SecondLevel5
-            | Kind::SeventeenthLevel2
-            | Kind::TargetAgain => Some(11),
+            Kind::TargetAgain => Some(11),
             Kind::Extended => Some(12),
+            Kind::SecondLevel1 => Some(17),
+            Kind::SecondLevel5 => Some(18),
+            Kind::SeventeenthLevel2 | Kind::SeventeenthTargetAgain => Some(19),
             Kind::ReservedLevelAndLength
             | Kind::LongCodeCut
             | Kind::BlockTooMany
@@ -750,6 +525,7 @@ pub fn plan_of(kind: Kind, rng: &mut Rng) -> Option<Plan> {
         Kind::SecondLevel5 => plan(&two_level_5(rng)),
         Kind::SeventeenthLevel2 => plan(&seventeen_level_2(rng)),
         Kind::TargetAgain => plan(&target_again(rng)),
+        Kind::SeventeenthTargetAgain => plan(&seventeenth_target_again(rng)),
         Kind::Order => {
             let list = blocks_with_level_1(rng);
             let at = list.iter().position(is_level_1).unwrap();
@@ -806,27 +582,51 @@ fn two_level_5(rng: &mut Rng) -> Vec<Block> {
     list
 }
 
-/// A payload of the kind.
-pub fn payload(kind: Kind, rng: &mut Rng) -> Vec<u8> {
+/// A valid payload, sometimes with the flag 0.
+fn valid_plan(rng: &mut Rng) -> Plan {
+    let mut made = plan(&any_blocks(rng));
+    if rng.one_in(32) {
+        made = plan(&[]);
+        made.refresh = false;
+        made.num_ext_blocks = None;
+    }
+    made
+}
+
+/// A valid payload with reserved blocks.
+fn reserved_plan(rng: &mut Rng) -> Plan {
+    let mut made = plan(&any_blocks(rng));
+    put_reserved(rng, &mut made);
+    made
+}
+
+/// The payload without its last bytes, of which one at least is missing.
+fn any_cut(rng: &mut Rng, made: Payload) -> Payload {
+    let n = rng.below(made.bytes.len());
+    made.cut(n)
+}
+
+/// A payload of the kind. What its plan says that it must get has to be what the kind
+/// says.
+pub fn payload(kind: Kind, rng: &mut Rng) -> Payload {
+    let made = payload_of(kind, rng);
+    if let Some(number) = kind.certain() {
+        assert_eq!(made.answer.number(), Some(number), "{:?}", kind);
+    }
+    made
+}
+
+fn payload_of(kind: Kind, rng: &mut Rng) -> Payload {
     match kind {
-        Kind::Valid => {
-            let mut made = plan(&any_blocks(rng));
-            if rng.one_in(32) {
-                made = plan(&[]);
-                made.refresh = false;
-                made.num_ext_blocks = None;
-            }
-            bytes_of(&made).0
-        }
+        Kind::Valid => valid_plan(rng).payload(),
         Kind::Cut => {
-            let mut bytes = payload(Kind::Valid, rng);
-            bytes.truncate(rng.below(bytes.len()));
-            bytes
+            let made = valid_plan(rng).payload();
+            any_cut(rng, made)
         }
         Kind::Extended => {
-            let mut bytes = payload(Kind::Valid, rng);
-            bytes.extend(extension(rng));
-            bytes
+            let mut made = valid_plan(rng);
+            made.rest = extension(rng);
+            made.payload()
         }
         Kind::WrongLengthThenEnd => {
             // Ends within or just after the level's byte boundary: 9 comes
@@ -837,14 +637,14 @@ pub fn payload(kind: Kind, rng: &mut Rng) -> Vec<u8> {
             made.blocks.truncate(at + 1);
             made.blocks[at].fields.clear();
             made.blocks[at].zeros = 0;
-            bytes_of(&made).0
+            made.payload()
         }
         Kind::ReservedLevel => {
             // The fields of a known level behind a reserved one.
             let mut made = plan(&some_blocks(rng));
             let at = rng.below(made.blocks.len());
             made.blocks[at].level = reserved_level(rng);
-            bytes_of(&made).0
+            made.payload()
         }
         Kind::ReservedLevelAndLength => {
             // What follows begins inside or behind what stands there.
@@ -857,22 +657,16 @@ pub fn payload(kind: Kind, rng: &mut Rng) -> Vec<u8> {
                 made.blocks[at].fields.clear();
                 made.blocks[at].zeros = 0;
             }
-            bytes_of(&made).0
+            made.payload()
         }
-        Kind::Reserved => {
-            let mut made = plan(&any_blocks(rng));
-            put_reserved(rng, &mut made);
-            bytes_of(&made).0
-        }
+        Kind::Reserved => reserved_plan(rng).payload(),
         Kind::ReservedCut => {
-            let mut bytes = payload(Kind::Reserved, rng);
-            bytes.truncate(rng.below(bytes.len()));
-            bytes
+            let made = reserved_plan(rng).payload();
+            any_cut(rng, made)
         }
         Kind::ReservedTooLong => {
             // 9 comes before the content, whether that is there or not.
-            let mut made = plan(&any_blocks(rng));
-            put_reserved(rng, &mut made);
+            let mut made = reserved_plan(rng);
             let places: Vec<usize> = (0..made.blocks.len())
                 .filter(|&i| is_reserved(made.blocks[i].level))
                 .collect();
@@ -886,14 +680,15 @@ pub fn payload(kind: Kind, rng: &mut Rng) -> Vec<u8> {
                 made.blocks.truncate(at + 1);
                 made.blocks[at].fields.clear();
             }
-            bytes_of(&made).0
+            made.payload()
         }
         Kind::FirstZeroBit => loop {
             let mut made = plan(&some_blocks(rng));
             made.first_one = Some(rng.below(840));
-            let (bytes, first_zeros, _) = bytes_of(&made);
-            if first_zeros > 0 {
-                return bytes;
+            // Where there are no zero bits, none is wrong.
+            let made = made.payload();
+            if made.answer.number() == Some(7) {
+                return made;
             }
         },
         Kind::LastZeroBit | Kind::LastZeroBitAndExtended => loop {
@@ -902,26 +697,26 @@ pub fn payload(kind: Kind, rng: &mut Rng) -> Vec<u8> {
             if kind == Kind::LastZeroBitAndExtended {
                 made.rest = extension(rng);
             }
-            let (bytes, _, last_zeros) = bytes_of(&made);
-            if last_zeros > 0 {
-                return bytes;
+            let made = made.payload();
+            if made.answer.number() == Some(7) {
+                return made;
             }
         },
         Kind::AppIdentifier => {
             let mut made = plan(&any_blocks(rng));
             made.app_identifier = ue(wrong_number(rng, 1));
-            bytes_of(&made).0
+            made.payload()
         }
         Kind::AppIdentifierAndVersion => {
             let mut made = plan(&any_blocks(rng));
             made.app_identifier = ue(wrong_number(rng, 1));
             made.app_version = ue(wrong_number(rng, 0));
-            bytes_of(&made).0
+            made.payload()
         }
         Kind::AppVersion => {
             let mut made = plan(&any_blocks(rng));
             made.app_version = ue(wrong_number(rng, 0));
-            bytes_of(&made).0
+            made.payload()
         }
         Kind::TooManyBlocks | Kind::TooManyBlocksAndZeroBit => {
             let mut made = plan(&some_blocks(rng));
@@ -934,13 +729,13 @@ pub fn payload(kind: Kind, rng: &mut Rng) -> Vec<u8> {
             if kind == Kind::TooManyBlocksAndZeroBit {
                 made.first_one = Some(rng.below(840));
             }
-            bytes_of(&made).0
+            made.payload()
         }
-        Kind::LongCode => bytes_of(&with_long_code(rng)).0,
+        Kind::LongCode => with_long_code(rng).payload(),
         Kind::LongCodeCut => {
-            let mut bytes = bytes_of(&with_long_code(rng)).0;
-            bytes.truncate(rng.below(bytes.len().min(16)) + 1);
-            bytes
+            let made = with_long_code(rng).payload();
+            let n = rng.below(made.bytes.len().min(16)) + 1;
+            made.cut(n)
         }
         Kind::BlockMissing => {
             let mut list = any_blocks(rng);
@@ -949,13 +744,13 @@ pub fn payload(kind: Kind, rng: &mut Rng) -> Vec<u8> {
             let most = if rng.one_in(2) { PLACES } else { 254 };
             let announced = list.len() + 1 + rng.below(most - list.len());
             made.num_ext_blocks = Some(ue(announced as u32));
-            bytes_of(&made).0
+            made.payload()
         }
         Kind::BlockTooMany => {
             let mut made = plan(&some_blocks(rng));
             let announced = rng.below(made.blocks.len());
             made.num_ext_blocks = Some(ue(announced as u32));
-            bytes_of(&made).0
+            made.payload()
         }
         Kind::FlagCleared => {
             let mut made = plan(&any_blocks(rng));
@@ -963,7 +758,7 @@ pub fn payload(kind: Kind, rng: &mut Rng) -> Vec<u8> {
             if rng.one_in(2) {
                 made.num_ext_blocks = None;
             }
-            bytes_of(&made).0
+            made.payload()
         }
         Kind::LooseFields => {
             // Right lengths and levels; the fields are any bits, and a level
@@ -988,7 +783,7 @@ pub fn payload(kind: Kind, rng: &mut Rng) -> Vec<u8> {
                     }
                 }
             }
-            bytes_of(&made).0
+            made.payload()
         }
         Kind::SeveralFaults => several_faults(rng),
         Kind::RandomBytes => {
@@ -1008,9 +803,9 @@ pub fn payload(kind: Kind, rng: &mut Rng) -> Vec<u8> {
                     ]));
                 }
             }
-            bytes
+            Payload::of_bytes(bytes)
         }
-        _ => bytes_of(&plan_of(kind, rng).unwrap()).0,
+        _ => plan_of(kind, rng).unwrap().payload(),
     }
 }
 
@@ -1061,17 +856,30 @@ fn target_again(rng: &mut Rng) -> Vec<Block> {
     let with_1 = rng.one_in(2);
     let with_5 = rng.one_in(2);
     let mut list = blocks(rng, with_1, level_2_blocks, with_5);
+    let later = 1 + rng.below(level_2_blocks - 1);
+    repeat_target(rng, &mut list, later);
+    list
+}
+
+/// 17 blocks of level 2, of which the last has the target of an earlier one.
+fn seventeenth_target_again(rng: &mut Rng) -> Vec<Block> {
+    let mut list = seventeen_level_2(rng);
+    repeat_target(rng, &mut list, LEVEL_2_BLOCKS);
+    list
+}
+
+/// Gives the block of level 2 that has so many of them before it the target of one
+/// of those.
+fn repeat_target(rng: &mut Rng, list: &mut [Block], later: usize) {
     let places: Vec<usize> = (0..list.len()).filter(|&i| is_level_2(&list[i])).collect();
-    let later = 1 + rng.below(places.len() - 1);
     let again = target(&list[places[rng.below(later)]]).unwrap();
     if let Block::Level2 { target_max_pq, .. } = &mut list[places[later]] {
         *target_max_pq = again;
     }
-    list
 }
 
 /// Two to four faults in one plan, at any places, then perhaps a cut.
-fn several_faults(rng: &mut Rng) -> Vec<u8> {
+fn several_faults(rng: &mut Rng) -> Payload {
     let mut made = plan(&some_blocks(rng));
     for _ in 0..rng.below(3) + 2 {
         let at = rng.below(made.blocks.len());
@@ -1116,11 +924,10 @@ fn several_faults(rng: &mut Rng) -> Vec<u8> {
             _ => made.blocks[at].fields.truncate(2),
         }
     }
-    let mut bytes = bytes_of(&made).0;
-    if rng.one_in(2) {
-        bytes.truncate(rng.below(bytes.len() + 1));
-    }
-    bytes
+    let made = made.payload();
+    let n = made.bytes.len();
+    let left = if rng.one_in(2) { rng.below(n + 1) } else { n };
+    made.cut(left)
 }
 
 /// A kind of made wrapper.
@@ -1141,31 +948,34 @@ pub const WRAPPER_KINDS: [WrapperKind; 5] = [
     WrapperKind::Alone,
 ];
 
-/// Behind the right wrapper the data decides; otherwise the answer is certain.
-pub fn certain_of_wrapper(kind: WrapperKind) -> Option<u32> {
-    match kind {
-        WrapperKind::Whole => None,
-        WrapperKind::OneByteDiffers | WrapperKind::ByteDiffersThenEnd => Some(3),
-        WrapperKind::Cut | WrapperKind::Alone => Some(1),
-    }
-}
-
-pub fn wrapped(kind: WrapperKind, data: &[u8], rng: &mut Rng) -> Vec<u8> {
+/// The data behind a wrapper of the kind, and what that must get: behind the whole
+/// wrapper what the data must get.
+pub fn wrapped(kind: WrapperKind, data: &Payload, rng: &mut Rng) -> (Vec<u8>, Answer) {
     let mut bytes = WRAPPER.to_vec();
-    match kind {
-        WrapperKind::Whole => bytes.extend_from_slice(data),
+    let answer = match kind {
+        WrapperKind::Whole => {
+            bytes.extend_from_slice(&data.bytes);
+            data.answer
+        }
         WrapperKind::OneByteDiffers => {
-            bytes.extend_from_slice(data);
-            spoil_wrapper(rng, &mut bytes);
+            bytes.extend_from_slice(&data.bytes);
+            let at = spoil_wrapper(rng, &mut bytes);
+            Answer::Refused(Refusal::in_wrapper(3, at))
         }
         WrapperKind::ByteDiffersThenEnd => {
             let at = spoil_wrapper(rng, &mut bytes);
             bytes.truncate(at + 1 + rng.below(WRAPPER.len() - at));
+            Answer::Refused(Refusal::in_wrapper(3, at))
         }
-        WrapperKind::Cut => bytes.truncate(rng.below(WRAPPER.len())),
-        WrapperKind::Alone => {}
-    }
-    bytes
+        WrapperKind::Cut => {
+            let n = rng.below(WRAPPER.len());
+            bytes.truncate(n);
+            Answer::Refused(Refusal::in_wrapper(1, n))
+        }
+        // The wrapper is whole, and the data is missing.
+        WrapperKind::Alone => Answer::Refused(Refusal::at(1, 0)),
+    };
+    (bytes, answer)
 }
 
 fn spoil_wrapper(rng: &mut Rng, bytes: &mut [u8]) -> usize {

@@ -14,6 +14,7 @@ mod compare;
 mod listed;
 mod made;
 mod own;
+mod plan;
 mod proved;
 mod reader;
 mod record;
@@ -97,12 +98,15 @@ fn compare_all(rounds: u64) -> c_int {
     println!("listed payloads: {}", listed);
     let small = runs::small_inputs(&mut compare);
     println!("inputs of 0, 1 and 2 bytes: {}", small);
+    let wrappers = runs::wrappers(&mut compare);
+    println!("cut wrappers and wrong wrapper bytes: {}", wrappers);
     let listed_units = listed::compare_units(&mut compare);
     println!("listed units: {}", listed_units);
     let small_units = units::small_units(&mut compare);
     println!("units of all headers, and of few bytes: {}", small_units);
     for round in 0..rounds {
         let payloads = runs::made_payloads(&mut compare, round);
+        let cuts = runs::cuts(&mut compare, round);
         let flips = runs::bit_flips(&mut compare, round);
         let reserved = reserved::payloads(&mut compare, round);
         let codes = codes::payloads(&mut compare, round);
@@ -110,11 +114,13 @@ fn compare_all(rounds: u64) -> c_int {
         let blocks = runs::shader_numbers(&mut compare, round);
         let placings = runs::placings(&mut compare, round);
         println!(
-            "round {}: {} made inputs ({} payloads, {} bit flips, {} payloads with reserved blocks, \
-             {} with numbers of codes, {} writes, {} blocks, {} placings)",
+            "round {}: {} made inputs ({} payloads, {} cuts, {} bit flips, \
+             {} payloads with reserved blocks, {} with numbers of codes, {} writes, {} blocks, \
+             {} placings)",
             round,
-            payloads + flips + reserved + codes + writes + blocks + placings,
+            payloads + cuts + flips + reserved + codes + writes + blocks + placings,
             payloads,
+            cuts,
             flips,
             reserved,
             codes,

@@ -1,7 +1,7 @@
 //! This program's own answers behind the interface of the proved archive
 //! (`proved.rs` has the same functions with the same arguments): flat records,
 //! flat tables, a result number, and lent arrays that stay as they were on a
-//! refusal, but for the facts of a reading, which are then zeros.
+//! refusal, but for the facts of a reading, which then say where.
 //!
 //! Two rules belong to that interface and not to 01. An argument of a wrong
 //! length is refused with 13 before everything else: a record, the facts of a
@@ -10,7 +10,7 @@
 //! treated as one that is not valid, in a point too. The lengths of the bytes to
 //! be written are 01's business and keep 01's order (14 before 13).
 
-use crate::reader::{self, Reading};
+use crate::reader::{self, Reading, Refusal};
 use crate::record::{block_from_flat, from_flat, to_flat, FLAT, FLAT_BLOCK};
 use crate::rival;
 use crate::shader;
@@ -19,17 +19,19 @@ use crate::track::{CLEARED, FLAT_POINT, FLAT_TABLE, POINTS};
 use crate::unit;
 use crate::writer;
 
-/// The facts of a reading: the bits read, and the number of blocks that were
-/// passed over.
-pub const READING: usize = 2;
+/// The facts of a reading: the bits read, the number of blocks that were passed over,
+/// and of a refusal its offset and whether that is one in the wrapper.
+pub const READING: usize = 4;
 pub const BITS: usize = 0;
 pub const SKIPPED: usize = 1;
+pub const OFFSET: usize = 2;
+pub const IN_WRAPPER: usize = 3;
 
 /// What a reader answers, given to the arrays. A refusal leaves the record as it
-/// was and clears the facts; an array of facts that has not its length is left
-/// alone.
+/// was; of the facts it gives the last two, and an accepted input the first two, and
+/// the others are zeros. An array of facts that has not its length is left alone.
 fn give_read(
-    read: impl Fn(&[u8]) -> Result<Reading, u32>,
+    read: impl Fn(&[u8]) -> Result<Reading, Refusal>,
     input: &[u8],
     record: &mut [i32],
     facts: &mut [u32],
@@ -48,7 +50,11 @@ fn give_read(
             facts[SKIPPED] = reading.skipped;
             0
         }
-        Err(refusal) => refusal,
+        Err(refusal) => {
+            facts[OFFSET] = refusal.offset;
+            facts[IN_WRAPPER] = refusal.in_wrapper as u32;
+            refusal.number
+        }
     }
 }
 

@@ -104,16 +104,23 @@ pub fn in_range(block: &Block) -> bool {
     }
 }
 
-/// Refusal 11's question, for a block that comes after `earlier`: is it a
-/// second level 1, a second level 5, a 17th level 2, or a level 2 whose
-/// target_max_PQ was already met?
-pub fn repeats(earlier: &[Block], block: &Block) -> bool {
+/// Which repeat a block is that comes after `earlier`, as a refusal number, or none:
+/// "11 is kept for a repeated target_max_PQ; 17 second level 1, 18 second level 5, 19
+/// seventeenth level 2. If 11 and 19 both apply, 19 comes first" (02, e).
+pub fn repeat(earlier: &[Block], block: &Block) -> Option<u32> {
     match *block {
-        Block::Nothing => false,
-        Block::Level1 { .. } => earlier.iter().any(|b| matches!(b, Block::Level1 { .. })),
-        Block::Level5 { .. } => earlier.iter().any(|b| matches!(b, Block::Level5 { .. })),
+        Block::Nothing => None,
+        Block::Level1 { .. } => earlier
+            .iter()
+            .any(|b| matches!(b, Block::Level1 { .. }))
+            .then_some(17),
+        Block::Level5 { .. } => earlier
+            .iter()
+            .any(|b| matches!(b, Block::Level5 { .. }))
+            .then_some(18),
         Block::Level2 { target_max_pq, .. } => {
             let mut met = 0;
+            let mut target_met = false;
             for other in earlier {
                 if let Block::Level2 {
                     target_max_pq: target,
@@ -121,12 +128,13 @@ pub fn repeats(earlier: &[Block], block: &Block) -> bool {
                 } = *other
                 {
                     met += 1;
-                    if target == target_max_pq {
-                        return true;
-                    }
+                    target_met |= target == target_max_pq;
                 }
             }
-            met >= LEVEL_2_BLOCKS
+            if met >= LEVEL_2_BLOCKS {
+                return Some(19);
+            }
+            target_met.then_some(11)
         }
     }
 }
@@ -149,7 +157,8 @@ pub fn valid(record: &Record) -> bool {
         }
     }
     for i in 0..count {
-        if !in_range(&record.places[i]) || repeats(&record.places[..i], &record.places[i]) {
+        if !in_range(&record.places[i]) || repeat(&record.places[..i], &record.places[i]).is_some()
+        {
             return false;
         }
     }

@@ -2,17 +2,13 @@
 //! request b. What each must get follows from the way in which it is made.
 
 use crate::compare::Compare;
-use crate::made::{block_plan, blocks, bytes_of, plan, random_bytes, reserved, ue, Plan, Rng};
-use crate::made::{holding, is_reserved, own_length, plan_of, put_reserved, reserved_level};
-use crate::made::{BlockPlan, Kind};
-use crate::reader::WRAPPER;
-use crate::record::{flat, Block, Record, FLAT, LEVEL_2_BLOCKS};
+use crate::made::{blocks, holding, plan_of, put_reserved, random_bytes, reserved_level};
+use crate::made::{Kind, Rng};
+use crate::plan::{block_plan, is_reserved, own_length, plan, plan_with, reserved, ue};
+use crate::plan::{Answer, BlockPlan, Plan, MOST_ANNOUNCED, MOST_SKIPPED_BYTES};
+use crate::reader::{Refusal, WRAPPER};
+use crate::record::{flat, from_flat, Block, Record, LEVEL_2_BLOCKS};
 use crate::runs::{expect, rng};
-
-/// "Up to 254 blocks may be announced", and a reserved block is skipped "up to
-/// 1,023 bytes".
-const MOST_ANNOUNCED: u32 = 254;
-const MOST_SKIPPED_BYTES: u32 = 1023;
 
 /// The longest bare payload that is accepted: 24 bits up to the first block, then
 /// 254 blocks of 1,023 bytes, each with 21 bits of its length and 8 of its level.
@@ -38,14 +34,19 @@ impl Content {
     }
 }
 
-/// Reads bare and behind the wrapper: a refusal with this number.
-pub fn refused(compare: &mut Compare, data: &[u8], number: u32) -> u64 {
-    let answer = compare.read(false, data);
-    expect(compare, data, Some(number), answer);
-    let input = [&WRAPPER[..], data].concat();
-    let answer = compare.read(true, &input);
-    expect(compare, &input, Some(number), answer);
+/// Reads bare and behind the wrapper: this answer.
+fn both(compare: &mut Compare, data: &[u8], answer: Answer) -> u64 {
+    let wrapped = [&WRAPPER[..], data].concat();
+    for (is_wrapped, input) in [(false, data), (true, &wrapped[..])] {
+        let number = compare.read(is_wrapped, input);
+        expect(compare, input, answer, number);
+    }
     2
+}
+
+/// The same: a refusal with this number at this bit of the data.
+pub fn refused(compare: &mut Compare, data: &[u8], number: u32, bit: usize) -> u64 {
+    both(compare, data, Answer::Refused(Refusal::at(number, bit)))
 }
 
 /// Reads bare and behind the wrapper: this record, so many blocks passed over, and
@@ -55,7 +56,7 @@ pub fn accepted(compare: &mut Compare, data: &[u8], record: &Record, skipped: us
     for (is_wrapped, input) in [(false, data), (true, &wrapped[..])] {
         let number = compare.read(is_wrapped, input);
         let facts = (compare.bits() as usize, compare.skipped() as usize);
-        expect(compare, input, Some(0), number);
+        expect(compare, input, Answer::Accepted, number);
         if facts != (8 * data.len(), skipped) || compare.record() != flat(record) {
             compare.fail(
                 "both implementations read otherwise than the made payload was meant",
@@ -73,19 +74,11 @@ pub fn accepted(compare: &mut Compare, data: &[u8], record: &Record, skipped: us
     2
 }
 
-/// A plan of any blocks.
-pub fn plan_with(list: Vec<BlockPlan>) -> Plan {
-    let mut made = plan(&[]);
-    made.num_ext_blocks = Some(ue(list.len() as u32));
-    made.blocks = list;
-    made
-}
-
-/// A reserved block among known ones, and the record of these. Blocks of level 2
-/// stand before it, each of 103 bits, one less than 13 bytes: by their number it
-/// begins at each of the eight bits of a byte. One of level 1 and one of level 5
+/// A reserved block among known ones, its place, and the record of these. Blocks of
+/// level 2 stand before it, each of 103 bits, one less than 13 bytes: by their number
+/// it begins at each of the eight bits of a byte. One of level 1 and one of level 5
 /// stand behind it.
-fn at_position(rng: &mut Rng, position: usize, block: BlockPlan) -> (Plan, Record) {
+fn at_position(rng: &mut Rng, position: usize, block: BlockPlan) -> (Plan, usize, Record) {
     let mut before = (8 - position) % 8;
     if rng.one_in(4) {
         before += 8;
@@ -97,7 +90,7 @@ fn at_position(rng: &mut Rng, position: usize, block: BlockPlan) -> (Plan, Recor
     rng.shuffle(&mut behind);
     planned.extend(behind.iter().map(block_plan));
     list.append(&mut behind);
-    (plan_with(planned), holding(&list))
+    (plan_with(planned), before, holding(&list))
 }
 
 fn block_bits(block: &BlockPlan) -> usize {
@@ -110,7 +103,7 @@ pub fn bits_before(made: &Plan, at: usize) -> usize {
     let mut head = made.clone();
     head.blocks.clear();
     let blocks: usize = made.blocks[..at].iter().map(block_bits).sum();
-    8 * bytes_of(&head).0.len() + blocks
+    8 * head.payload().bytes.len() + blocks
 }
 
 /// Every level with every length up to 20, at all bit positions in turn; the
@@ -126,11 +119,13 @@ fn levels_and_lengths(compare: &mut Compare, round: u64) -> u64 {
             let turn = level as usize + length / 8 + round as usize;
             let content = CONTENTS[(turn + length) % 3].bytes(&mut rng, length);
             let block = reserved(level, &content);
-            let (made, record) = at_position(&mut rng, (turn + length) % 8, block);
-            let data = bytes_of(&made).0;
+            let (made, at, record) = at_position(&mut rng, (turn + length) % 8, block);
+            let data = made.payload().bytes;
             cases += match own_length(level) {
                 None => accepted(compare, &data, &record, 1),
-                Some(own) if own as usize != length => refused(compare, &data, 9),
+                Some(own) if own as usize != length => {
+                    refused(compare, &data, 9, bits_before(&made, at))
+                }
                 Some(_) => 0,
             };
         }
@@ -149,32 +144,32 @@ fn positions(compare: &mut Compare, round: u64) -> u64 {
             for content in CONTENTS {
                 let level = reserved_level(&mut rng);
                 let block = reserved(level, &content.bytes(&mut rng, length));
-                let (made, record) = at_position(&mut rng, position, block);
-                let at = made.blocks.iter().position(|one| is_reserved(one.level));
-                assert_eq!(bits_before(&made, at.unwrap()) % 8, position);
-                let data = bytes_of(&made).0;
+                let (made, at, record) = at_position(&mut rng, position, block);
+                let begins = bits_before(&made, at);
+                assert_eq!(begins % 8, position);
+                let payload = made.payload();
+                let data = &payload.bytes;
                 if length as u32 > MOST_SKIPPED_BYTES {
-                    cases += refused(compare, &data, 9);
+                    cases += refused(compare, data, 9, begins);
                     // 9 before the content, which is not there.
                     let mut made = made.clone();
-                    made.blocks.truncate(at.unwrap() + 1);
-                    made.blocks[at.unwrap()].fields.clear();
-                    cases += refused(compare, &bytes_of(&made).0, 9);
+                    made.blocks.truncate(at + 1);
+                    made.blocks[at].fields.clear();
+                    cases += refused(compare, &made.payload().bytes, 9, begins);
                     continue;
                 }
-                cases += accepted(compare, &data, &record, 1);
+                cases += accepted(compare, data, &record, 1);
                 let more = [&data[..], &[rng.pick(&[0, 0x80, 0xFF])]].concat();
-                cases += refused(compare, &more, 12);
-                if length > 20 {
-                    for n in [data.len() - 1, data.len() / 2, data.len() - 100] {
-                        cases += refused(compare, &data[..n], 1);
-                    }
+                cases += refused(compare, &more, 12, 8 * data.len());
+                let cuts = if length > 20 {
+                    vec![data.len() - 1, data.len() / 2, data.len() - 100]
                 } else if content == CONTENTS[(length + position) % 3] {
-                    for n in 0..data.len() {
-                        let answer = compare.read(false, &data[..n]);
-                        expect(compare, &data[..n], Some(1), answer);
-                        cases += 1;
-                    }
+                    (0..data.len()).collect()
+                } else {
+                    Vec::new()
+                };
+                for n in cuts {
+                    cases += both(compare, &data[..n], payload.answer_of_cut(n));
                 }
             }
         }
@@ -183,7 +178,7 @@ fn positions(compare: &mut Compare, round: u64) -> u64 {
 }
 
 /// Every single-bit flip of some payloads. One inside the content of a reserved
-/// block changes no answer.
+/// block changes no answer, and one of a zero bit makes that a one.
 fn flips(compare: &mut Compare, round: u64) -> u64 {
     compare.begin(format!(
         "bit flips of payloads with reserved blocks, round {}",
@@ -195,29 +190,31 @@ fn flips(compare: &mut Compare, round: u64) -> u64 {
         let n = rng.below(12);
         let content = rng.pick(&CONTENTS).bytes(&mut rng, n);
         let block = reserved(reserved_level(&mut rng), &content);
-        let (made, _) = at_position(&mut rng, i % 8, block);
-        let at = made
-            .blocks
-            .iter()
-            .position(|one| is_reserved(one.level))
-            .unwrap();
+        let (made, at, _) = at_position(&mut rng, i % 8, block);
         let end = bits_before(&made, at + 1);
-        let mut data = bytes_of(&made).0;
+        let payload = made.payload();
+        let mut data = payload.bytes.clone();
         let number = compare.read(false, &data);
-        expect(compare, &data, Some(0), number);
+        expect(compare, &data, Answer::Accepted, number);
         let record = compare.record().to_vec();
         for bit in 0..8 * data.len() {
             data[bit / 8] ^= 0x80 >> (bit % 8);
             let number = compare.read(false, &data);
-            if bit + 8 * n >= end && bit < end {
-                expect(compare, &data, Some(0), number);
-                if compare.record() != record || compare.skipped() != 1 {
-                    compare.fail(
-                        "a bit inside a reserved block changes what both implementations read",
-                        &format!("input: {:02X?}", data),
-                        &format!("bit {}", bit),
-                    );
-                }
+            let answer = if bit + 8 * n >= end && bit < end {
+                Answer::Accepted
+            } else if payload.is_zero_bit(bit) {
+                Answer::Refused(Refusal::at(7, bit))
+            } else {
+                Answer::Unknown
+            };
+            expect(compare, &data, answer, number);
+            if answer == Answer::Accepted && (compare.record() != record || compare.skipped() != 1)
+            {
+                compare.fail(
+                    "a bit inside a reserved block changes what both implementations read",
+                    &format!("input: {:02X?}", data),
+                    &format!("bit {}", bit),
+                );
             }
             cases += 1;
             data[bit / 8] ^= 0x80 >> (bit % 8);
@@ -227,8 +224,8 @@ fn flips(compare: &mut Compare, round: u64) -> u64 {
 }
 
 /// The kinds whose fault, if there is one, stands in a known block, with reserved
-/// blocks among theirs: the answer stays.
-const AMONG: [Kind; 12] = [
+/// blocks among theirs: the number stays, and the place moves with its block.
+const AMONG: [Kind; 13] = [
     Kind::Valid,
     Kind::Largest,
     Kind::WrongLength,
@@ -236,6 +233,7 @@ const AMONG: [Kind; 12] = [
     Kind::SecondLevel5,
     Kind::SeventeenthLevel2,
     Kind::TargetAgain,
+    Kind::SeventeenthTargetAgain,
     Kind::Order,
     Kind::OrderOfASecondLevel1,
     Kind::BlockZeroBit,
@@ -250,38 +248,37 @@ fn among(compare: &mut Compare, round: u64) -> u64 {
         let mut rng = rng(0xD10 + part as u64, round);
         let payloads = match kind {
             Kind::Valid => 2_000,
-            Kind::Largest | Kind::SeventeenthLevel2 => 200,
+            Kind::Largest | Kind::SeventeenthLevel2 | Kind::SeventeenthTargetAgain => 200,
             _ => 600,
         };
         for _ in 0..payloads {
             let mut made = plan_of(kind, &mut rng).unwrap();
-            let known = bytes_of(&made).0;
+            let known = made.payload();
+            assert_eq!(known.answer.number(), kind.certain());
             let blocks = made.blocks.len();
             put_reserved(&mut rng, &mut made);
-            let data = bytes_of(&made).0;
+            let payload = made.payload();
+            assert_eq!(payload.answer.number(), kind.certain());
             // The payload without them reads to the same record, or the same number.
-            let number = compare.read(false, &known);
-            expect(compare, &known, kind.certain(), number);
+            let number = compare.read(false, &known.bytes);
+            expect(compare, &known.bytes, known.answer, number);
+            cases += 1;
             if number != 0 {
-                cases += 1 + refused(compare, &data, number);
+                cases += both(compare, &payload.bytes, payload.answer);
                 continue;
             }
-            let mut record = [0; FLAT];
-            record.copy_from_slice(compare.record());
-            let record = crate::record::from_flat(&record).unwrap();
-            cases += 1 + accepted(compare, &data, &record, made.blocks.len() - blocks);
-            // Zero bits behind the blocks, and what may stand behind those.
+            let record = from_flat(compare.record()).unwrap();
+            let skipped = made.blocks.len() - blocks;
+            cases += accepted(compare, &payload.bytes, &record, skipped);
+            // Zero bits behind the blocks, then before them. Where there are none, none
+            // is wrong.
             made.last_one = Some(rng.below(840));
-            let (wrong, _, last_zeros) = bytes_of(&made);
-            if last_zeros > 0 {
-                cases += refused(compare, &wrong, 7);
-            }
+            let wrong = made.payload();
+            cases += both(compare, &wrong.bytes, wrong.answer);
             made.last_one = None;
             made.first_one = Some(rng.below(840));
-            let (wrong, first_zeros, _) = bytes_of(&made);
-            if first_zeros > 0 {
-                cases += refused(compare, &wrong, 7);
-            }
+            let wrong = made.payload();
+            cases += both(compare, &wrong.bytes, wrong.answer);
         }
     }
     cases
@@ -298,24 +295,21 @@ fn counts(compare: &mut Compare, round: u64) -> u64 {
         let list: Vec<BlockPlan> = (0..n)
             .map(|_| reserved(reserved_level(&mut rng), &[]))
             .collect();
-        let data = bytes_of(&plan_with(list)).0;
+        let data = plan_with(list).payload().bytes;
         cases += if n > most {
-            refused(compare, &data, 6)
+            refused(compare, &data, 6, 5)
         } else {
             accepted(compare, &data, &holding(&[]), n)
         };
         // As many announced, and nothing there.
         let mut made = plan(&[]);
         made.num_ext_blocks = Some(ue(n as u32));
-        let number = match n {
+        let data = made.payload().bytes;
+        cases += match n {
             0 => 0,
-            _ if n > most => 6,
-            _ => 1,
+            _ if n > most => refused(compare, &data, 6, 5),
+            _ => refused(compare, &data, 1, 8 * data.len()),
         };
-        let data = bytes_of(&made).0;
-        if number > 0 {
-            cases += refused(compare, &data, number);
-        }
     }
     for known in [0, 1, 2, 17, 18, 18, 18, 18] {
         let mut list = blocks(&mut rng, true, LEVEL_2_BLOCKS, true);
@@ -327,17 +321,20 @@ fn counts(compare: &mut Compare, round: u64) -> u64 {
             made.blocks.insert(rng.below(made.blocks.len() + 1), block);
         }
         made.num_ext_blocks = Some(ue(most as u32));
-        let data = bytes_of(&made).0;
-        cases += accepted(compare, &data, &holding(&list), most - known);
-        cases += refused(compare, &data[..data.len() - 1], 1);
-        cases += refused(compare, &[&data[..], &[0]].concat(), 12);
+        let payload = made.payload();
+        let data = &payload.bytes;
+        let n = data.len();
+        cases += accepted(compare, data, &holding(&list), most - known);
+        cases += both(compare, &data[..n - 1], payload.answer_of_cut(n - 1));
+        cases += refused(compare, &[&data[..], &[0]].concat(), 12, 8 * n);
         // One announced less: what is left of it is no zero bits or more bytes.
         let mut fewer = made.clone();
         fewer.num_ext_blocks = Some(ue(most as u32 - 1));
-        compare.read(false, &bytes_of(&fewer).0);
+        let payload = fewer.payload();
+        cases += both(compare, &payload.bytes, payload.answer);
         // One more is too many, whatever is there.
         fewer.num_ext_blocks = Some(ue(most as u32 + 1));
-        cases += 1 + refused(compare, &bytes_of(&fewer).0, 6);
+        cases += refused(compare, &fewer.payload().bytes, 6, 5);
         if known == 18 {
             // With all the places full, the last of the 254 is one block more.
             let again = rng.pick(&list);
@@ -349,7 +346,14 @@ fn counts(compare: &mut Compare, round: u64) -> u64 {
                 .unwrap();
             repeated.blocks.remove(last);
             repeated.blocks.push(block_plan(&again));
-            cases += refused(compare, &bytes_of(&repeated).0, 11);
+            let begins = bits_before(&repeated, most - 1);
+            let number = match again {
+                Block::Level1 { .. } => 17,
+                Block::Level5 { .. } => 18,
+                // Its target_max_PQ was met too, and 19 comes first.
+                _ => 19,
+            };
+            cases += refused(compare, &repeated.payload().bytes, number, begins);
             let other = Block::Level2 {
                 target_max_pq: 4095 - (list.len() as u16),
                 trim_slope: 0,
@@ -361,7 +365,7 @@ fn counts(compare: &mut Compare, round: u64) -> u64 {
             };
             repeated.blocks.pop();
             repeated.blocks.push(block_plan(&other));
-            cases += refused(compare, &bytes_of(&repeated).0, 11);
+            cases += refused(compare, &repeated.payload().bytes, 19, begins);
         }
     }
     cases
@@ -376,37 +380,37 @@ fn longest(compare: &mut Compare, round: u64) -> u64 {
     let level = reserved_level(&mut rng);
     let list = vec![reserved(level, &content); MOST_ANNOUNCED as usize];
     let mut made = plan_with(list);
-    let data = bytes_of(&made).0;
+    let data = made.payload().bytes;
     assert_eq!(data.len(), LONGEST);
     let none = holding(&[]);
     let mut cases = accepted(compare, &data, &none, MOST_ANNOUNCED as usize);
-    for n in [
-        LONGEST - 1,
-        LONGEST - 2,
-        LONGEST - 1024,
-        65_536,
-        32_768,
-        8_192,
-    ] {
-        cases += refused(compare, &data[..n], 1);
+    for n in [LONGEST - 1, LONGEST - 2, 65_536, 32_768, 8_192] {
+        // All of them end inside a content.
+        cases += refused(compare, &data[..n], 1, 8 * n);
     }
-    cases += refused(compare, &[&data[..], &[0]].concat(), 12);
+    // This one two bits into the last level, which 253 blocks and a length precede.
+    let level_begins = 24 + 253 * (21 + 8 + 8 * 1023) + 21;
+    cases += refused(compare, &data[..LONGEST - 1024], 1, level_begins);
+    cases += refused(compare, &[&data[..], &[0]].concat(), 12, 8 * LONGEST);
     // The last two bits are zero bits behind the blocks.
     let mut other = data.clone();
     other[LONGEST - 1] |= 1;
-    cases += refused(compare, &other, 7);
+    cases += refused(compare, &other, 7, 8 * LONGEST - 1);
     // Known blocks in place of the last ones.
     let known = blocks(&mut rng, true, LEVEL_2_BLOCKS, true);
     made.blocks.truncate(MOST_ANNOUNCED as usize - known.len());
     made.blocks.extend(known.iter().map(block_plan));
-    let data = bytes_of(&made).0;
+    let payload = made.payload();
+    let data = &payload.bytes;
     let skipped = MOST_ANNOUNCED as usize - known.len();
-    cases += accepted(compare, &data, &holding(&known), skipped);
-    cases += refused(compare, &data[..data.len() - 1], 1);
+    cases += accepted(compare, data, &holding(&known), skipped);
+    let n = data.len() - 1;
+    cases += both(compare, &data[..n], payload.answer_of_cut(n));
     // The last of the reserved ones a byte longer.
     made.blocks[skipped - 1].length = ue(MOST_SKIPPED_BYTES + 1);
     made.blocks[skipped - 1].fields.push((0, 8));
-    cases += refused(compare, &bytes_of(&made).0, 9);
+    let begins = bits_before(&made, skipped - 1);
+    cases += refused(compare, &made.payload().bytes, 9, begins);
     cases
 }
 

@@ -2,9 +2,11 @@
 //! bits, and no loop over bits. It answers what `reader` answers, for every
 //! input; the bench counts the proved reader beside it.
 //!
-//! It is safe Rust and gives the same record, so that both are asked the same.
+//! It is safe Rust and gives the same record, so that both are asked the same. Where
+//! an element begins it does not keep: a refusal works that out from how far the
+//! reading came.
 
-use crate::reader::{Reading, WRAPPER};
+use crate::reader::{Reading, Refusal, WRAPPER};
 use crate::record::{Block, EMPTY, LEVEL_2_BLOCKS};
 
 /// The input, and how many of its bits were read.
@@ -38,15 +40,33 @@ impl Window<'_> {
         u64::from_be_bytes(eight)
     }
 
+    /// The bits of the input.
+    #[inline(always)]
+    fn end(&self) -> usize {
+        8 * self.input.len()
+    }
+
     /// How many bits are left.
     #[inline(always)]
     fn left(&self) -> usize {
-        8 * self.input.len() - self.read
+        self.end() - self.read
+    }
+
+    /// The refusal of what begins at the next bit.
+    #[inline(always)]
+    fn refused(&self, number: u32) -> Refusal {
+        Refusal::at(number, self.read)
+    }
+
+    /// The same of a known block that was just read, which has so many bits.
+    #[inline(always)]
+    fn refused_block(&self, number: u32, bits: usize) -> Refusal {
+        Refusal::at(number, self.read - bits)
     }
 
     /// ue(v). A code of up to 28 zeros has 57 bits at most and lies in the window.
     #[inline(always)]
-    fn ue(&mut self) -> Result<u32, u32> {
+    fn ue(&mut self) -> Result<u32, Refusal> {
         let bits = self.next();
         let zeros = bits.leading_zeros() as usize;
         let width = 2 * zeros + 1;
@@ -56,27 +76,29 @@ impl Window<'_> {
             return Ok(number);
         }
         if self.left() < width {
-            return Err(1);
+            return Err(self.refused(1));
         }
         self.read += width;
         Ok((bits >> (64 - width)) as u32 - 1)
     }
 
-    /// n zero bits, at most 7: the first that is a one or that is missing decides.
+    /// n zero bits, at most 7: the first that is a one or that is missing decides. A
+    /// missing one stands behind all that are there.
     #[inline(always)]
-    fn zeros(&mut self, n: usize) -> Result<(), u32> {
-        if (self.next().leading_zeros() as usize) < n {
-            return Err(7);
+    fn zeros(&mut self, n: usize) -> Result<(), Refusal> {
+        let zeros = self.next().leading_zeros() as usize;
+        if zeros < n {
+            return Err(Refusal::at(7, self.read + zeros));
         }
         if self.left() < n {
-            return Err(1);
+            return Err(Refusal::at(1, self.end()));
         }
         self.read += n;
         Ok(())
     }
 
     #[inline(always)]
-    fn zeros_to_byte(&mut self) -> Result<(), u32> {
+    fn zeros_to_byte(&mut self) -> Result<(), Refusal> {
         self.zeros(self.read.wrapping_neg() % 8)
     }
 }
@@ -87,16 +109,35 @@ impl Window<'_> {
 /// It gets the window's parts, so that the window itself stays in registers.
 #[cold]
 #[inline(never)]
-fn long_ue(input: &[u8], read: usize, zeros: usize) -> Result<u32, u32> {
+fn long_ue(input: &[u8], read: usize, zeros: usize) -> Result<u32, Refusal> {
     let mut window = Window { input, read };
     if zeros > 31 {
-        return Err(if window.left() < 32 { 1 } else { 2 });
+        let whole = window.left() >= 32;
+        return Err(window.refused(if whole { 2 } else { 1 }));
     }
     if window.left() < 2 * zeros + 1 {
-        return Err(1);
+        return Err(window.refused(1));
     }
     window.read += zeros;
     Ok((window.next() >> (63 - zeros)) as u32 - 1)
+}
+
+/// 9, at the code of the length, which stands before the eight bits of the level: as
+/// wide as its number has it.
+#[cold]
+#[inline(never)]
+fn refused_length(length: u32, after_level: usize) -> Refusal {
+    let zeros = 31 - (length + 1).leading_zeros() as usize;
+    Refusal::at(9, after_level - 8 - (2 * zeros + 1))
+}
+
+/// 1, at the first field that is not whole. All have 12 bits but for those of level 5
+/// and for ms_weight, which has six before it.
+#[cold]
+#[inline(never)]
+fn cut_field(level: u64, first_field: usize, left: usize) -> Refusal {
+    let width = if level == 5 { 13 } else { 12 };
+    Refusal::at(1, first_field + width * (left / width).min(6))
 }
 
 /// The n bits of a window that stand behind its first `skip`.
@@ -105,12 +146,17 @@ fn field(bits: u64, skip: u32, n: u32) -> u16 {
     (bits << skip >> (64 - n)) as u16
 }
 
+/// The bits of a known block.
+const LEVEL_1_BITS: usize = 53;
+const LEVEL_2_BITS: usize = 103;
+const LEVEL_5_BITS: usize = 71;
+
 /// One block, up to refusal 10, or none where it was passed over.
 #[inline(always)]
-fn read_block(window: &mut Window) -> Result<Option<Block>, u32> {
+fn read_block(window: &mut Window) -> Result<Option<Block>, Refusal> {
     let length = window.ue()?;
     if window.left() < 8 {
-        return Err(1);
+        return Err(window.refused(1));
     }
     let level = window.next() >> 56;
     window.read += 8;
@@ -120,20 +166,20 @@ fn read_block(window: &mut Window) -> Result<Option<Block>, u32> {
         5 => (7, 52),
         _ => {
             if length > 1023 {
-                return Err(9);
+                return Err(refused_length(length, window.read));
             }
             if window.left() < 8 * length as usize {
-                return Err(1);
+                return Err(Refusal::at(1, window.end()));
             }
             window.read += 8 * length as usize;
             return Ok(None);
         }
     };
     if length != its_length {
-        return Err(9);
+        return Err(refused_length(length, window.read));
     }
     if window.left() < fields {
-        return Err(1);
+        return Err(cut_field(level, window.read, window.left()));
     }
     let bits = window.next();
     match level {
@@ -144,7 +190,7 @@ fn read_block(window: &mut Window) -> Result<Option<Block>, u32> {
             window.read += 36;
             window.zeros(4)?;
             if !(min_pq <= avg_pq && avg_pq <= max_pq) {
-                return Err(10);
+                return Err(window.refused_block(10, LEVEL_1_BITS));
             }
             Ok(Some(Block::Level1 {
                 min_pq,
@@ -192,16 +238,23 @@ struct Met {
 }
 
 impl Met {
-    /// Whether the block is a repeat; if not, it is met from now on.
+    /// The refusal number of a repeat and the bits of such a block, or none; then the
+    /// block is met from now on.
     #[inline(always)]
-    fn repeats(&mut self, block: &Block) -> bool {
+    fn repeat(&mut self, block: &Block) -> Option<(u32, usize)> {
         match *block {
-            Block::Nothing => false,
-            Block::Level1 { .. } => std::mem::replace(&mut self.level_1, true),
-            Block::Level5 { .. } => std::mem::replace(&mut self.level_5, true),
+            Block::Nothing => None,
+            Block::Level1 { .. } => {
+                let met = std::mem::replace(&mut self.level_1, true);
+                met.then_some((17, LEVEL_1_BITS))
+            }
+            Block::Level5 { .. } => {
+                let met = std::mem::replace(&mut self.level_5, true);
+                met.then_some((18, LEVEL_5_BITS))
+            }
             Block::Level2 { target_max_pq, .. } => {
                 if self.level_2 == LEVEL_2_BLOCKS {
-                    return true;
+                    return Some((19, LEVEL_2_BITS));
                 }
                 // All of them, so that the compiler compares several at once.
                 let mut met = false;
@@ -210,32 +263,33 @@ impl Met {
                 }
                 self.targets[self.level_2] = target_max_pq;
                 self.level_2 += 1;
-                met
+                met.then_some((11, LEVEL_2_BITS))
             }
         }
     }
 }
 
-/// The reading, or the refusal number.
-pub fn read_bare(input: &[u8]) -> Result<Reading, u32> {
+/// The reading, or the refusal. The codes before app_version and before num_ext_blocks
+/// are those of the numbers that they must have, and the flag is one bit.
+pub fn read_bare(input: &[u8]) -> Result<Reading, Refusal> {
     let mut window = Window { input, read: 0 };
     let mut record = EMPTY;
     let mut skipped = 0;
     if window.ue()? != 1 {
-        return Err(4);
+        return Err(Refusal::at(4, 0));
     }
     if window.ue()? != 0 {
-        return Err(5);
+        return Err(Refusal::at(5, 3));
     }
     if window.left() < 1 {
-        return Err(1);
+        return Err(window.refused(1));
     }
     record.refresh = window.next() >> 63 == 1;
     window.read += 1;
     if record.refresh {
         let announced = window.ue()?;
         if announced > 254 {
-            return Err(6);
+            return Err(Refusal::at(6, 5));
         }
         if announced > 0 {
             window.zeros_to_byte()?;
@@ -250,8 +304,8 @@ pub fn read_bare(input: &[u8]) -> Result<Reading, u32> {
             match read_block(&mut window)? {
                 None => skipped += 1,
                 Some(block) => {
-                    if met.repeats(&block) {
-                        return Err(11);
+                    if let Some((number, bits)) = met.repeat(&block) {
+                        return Err(window.refused_block(number, bits));
                     }
                     record.places[record.count as usize] = block;
                     record.count += 1;
@@ -261,7 +315,7 @@ pub fn read_bare(input: &[u8]) -> Result<Reading, u32> {
     }
     window.zeros_to_byte()?;
     if window.left() > 0 {
-        return Err(12);
+        return Err(window.refused(12));
     }
     Ok(Reading {
         record,
@@ -271,11 +325,11 @@ pub fn read_bare(input: &[u8]) -> Result<Reading, u32> {
 }
 
 /// The eight wrapper bytes from left to right, then the data.
-pub fn read_wrapped(input: &[u8]) -> Result<Reading, u32> {
+pub fn read_wrapped(input: &[u8]) -> Result<Reading, Refusal> {
     for (i, &byte) in WRAPPER.iter().enumerate() {
         match input.get(i) {
-            None => return Err(1),
-            Some(&there) if there != byte => return Err(3),
+            None => return Err(Refusal::in_wrapper(1, i)),
+            Some(&there) if there != byte => return Err(Refusal::in_wrapper(3, i)),
             Some(_) => {}
         }
     }

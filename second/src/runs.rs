@@ -1,12 +1,13 @@
 //! The parts of a run: which inputs are compared, and how many.
 
-use crate::compare::{Compare, Table, Track};
+use crate::compare::{hex, Compare, Known, Table, Track};
 use crate::made::{
-    certain_of_wrapper, flat_record, payload, pictures, point_record, wrapped, FlatKind, Kind, Rng,
-    WrapperKind, FLAT_KINDS, KINDS, WRAPPER_KINDS,
+    flat_record, payload, pictures, point_record, wrapped, FlatKind, Kind, Rng, WrapperKind,
+    FLAT_KINDS, KINDS, WRAPPER_KINDS,
 };
 use crate::own::READING;
-use crate::reader::WRAPPER;
+use crate::plan::Answer;
+use crate::reader::{Refusal, WRAPPER};
 use crate::record::{flat, EMPTY, FLAT, FLAT_BLOCK};
 use crate::track::{FLAT_POINT, FLAT_TABLE, POINTS};
 
@@ -15,7 +16,7 @@ pub const WRONG_RECORD_LENGTHS: [usize; 5] = [0, 1, 145, 147, 292];
 
 /// Lengths of a flat record and of the facts of a reading of which one, or both,
 /// is wrong.
-pub const WRONG_READ_LENGTHS: [(usize, usize); 14] = [
+pub const WRONG_READ_LENGTHS: [(usize, usize); 15] = [
     (0, READING),
     (1, READING),
     (FLAT - 1, READING),
@@ -25,6 +26,8 @@ pub const WRONG_READ_LENGTHS: [(usize, usize); 14] = [
     (FLAT, READING - 1),
     (FLAT, READING + 1),
     (FLAT, 2 * READING),
+    // As many facts as before 02's request e.
+    (FLAT, 2),
     (FLAT - 1, READING - 1),
     (FLAT + 1, READING + 1),
     (0, 0),
@@ -60,19 +63,68 @@ pub fn rng(part: u64, round: u64) -> Rng {
 pub fn small_inputs(compare: &mut Compare) -> u64 {
     compare.begin("all inputs of 0, 1 and 2 bytes".to_string());
     let mut cases = 0;
-    let mut behind_wrapper = WRAPPER.to_vec();
     for n in 0..3usize {
         for value in 0..1u32 << (8 * n) {
             let bytes = [(value >> 8) as u8, value as u8];
             let input = &bytes[2 - n..];
-            compare.read(false, input);
             compare.read(true, input);
-            behind_wrapper.truncate(WRAPPER.len());
-            behind_wrapper.extend_from_slice(input);
-            compare.read(true, &behind_wrapper);
+            let number = compare.read(false, input);
+            same_behind_wrapper(compare, input, number);
             cases += 3;
         }
     }
+    cases
+}
+
+/// Reads what was just read bare behind the wrapper: the number and the facts must be
+/// the same, for no offset in the data counts the wrapper.
+fn same_behind_wrapper(compare: &mut Compare, data: &[u8], bare: u32) {
+    let facts = compare.all_facts();
+    let number = compare.read(true, &[&WRAPPER[..], data].concat());
+    if number != bare || compare.all_facts() != facts {
+        compare.fail(
+            "both implementations answer otherwise behind the wrapper",
+            &format!("data: {}", hex(data)),
+            &format!(
+                "bare: {} {:?}, wrapped: {} {:?}",
+                bare,
+                facts,
+                number,
+                compare.all_facts()
+            ),
+        );
+    }
+}
+
+/// Every cut of the wrapper and every wrong byte at each of its places: before the
+/// data, before nothing but wrong bytes, and as the last byte. Gives the number of
+/// inputs.
+pub fn wrappers(compare: &mut Compare) -> u64 {
+    compare.begin("every cut and every wrong byte of the wrapper".to_string());
+    let whole = [&WRAPPER[..], &[0x50]].concat();
+    let mut cases = 0;
+    let mut hold = |input: &[u8], answer| {
+        let number = compare.read(true, input);
+        expect(compare, input, answer, number);
+        cases += 1;
+    };
+    for at in 0..WRAPPER.len() {
+        hold(&whole[..at], Answer::Refused(Refusal::in_wrapper(1, at)));
+        let answer = Answer::Refused(Refusal::in_wrapper(3, at));
+        for byte in (0..=255).filter(|&byte| byte != WRAPPER[at]) {
+            let mut input = whole.clone();
+            input[at] = byte;
+            hold(&input, answer);
+            for later in &mut input[at + 1..] {
+                *later = !*later;
+            }
+            hold(&input, answer);
+            hold(&input[..at + 1], answer);
+        }
+    }
+    // The wrapper is whole, and a bit of the data is missing.
+    hold(&WRAPPER, Answer::Refused(Refusal::at(1, 0)));
+    hold(&whole, Answer::Accepted);
     cases
 }
 
@@ -86,7 +138,7 @@ fn payloads_of(kind: Kind) -> u64 {
         Kind::Largest => 1_000,
         Kind::Cut => 30_000,
         Kind::Extended => 20_000,
-        Kind::SeventeenthLevel2 => 2_500,
+        Kind::SeventeenthLevel2 | Kind::SeventeenthTargetAgain => 2_500,
         Kind::FirstZeroBit
         | Kind::AppIdentifier
         | Kind::AppIdentifierAndVersion
@@ -107,31 +159,26 @@ pub fn made_payloads(compare: &mut Compare, round: u64) -> u64 {
         compare.begin(format!("payloads of kind {:?}, round {}", kind, round));
         let mut rng = rng(0x100 + part as u64, round);
         for i in 0..payloads_of(kind) {
-            let data = payload(kind, &mut rng);
-            let number = compare.read(false, &data);
+            let made = payload(kind, &mut rng);
+            let number = compare.read(false, &made.bytes);
             cases += 1;
-            expect(compare, &data, kind.certain(), number);
-            if i % 4 == 0 {
-                let wrapper = if i % 8 == 0 {
-                    WrapperKind::Whole
-                } else {
-                    rng.pick(&WRAPPER_KINDS)
-                };
-                let input = wrapped(wrapper, &data, &mut rng);
+            expect(compare, &made.bytes, made.answer, number);
+            if i % 8 == 0 {
+                same_behind_wrapper(compare, &made.bytes, number);
+                cases += 1;
+            } else if i % 8 == 4 {
+                let wrapper = rng.pick(&WRAPPER_KINDS);
+                let (input, answer) = wrapped(wrapper, &made, &mut rng);
                 let number = compare.read(true, &input);
                 cases += 1;
-                let certain = match wrapper {
-                    WrapperKind::Whole => kind.certain(),
-                    _ => certain_of_wrapper(wrapper),
-                };
-                expect(compare, &input, certain, number);
+                expect(compare, &input, answer, number);
             }
             if i % 256 == 0 {
                 // The wrong lengths come before everything else.
                 for (length, facts) in WRONG_READ_LENGTHS {
                     for is_wrapped in [false, true] {
-                        let number = compare.read_lent(is_wrapped, &data, length, facts);
-                        expect(compare, &data, Some(13), number);
+                        let number = compare.read_lent(is_wrapped, &made.bytes, length, facts);
+                        meant(compare, number, 13);
                         cases += 1;
                     }
                 }
@@ -142,16 +189,22 @@ pub fn made_payloads(compare: &mut Compare, round: u64) -> u64 {
 }
 
 /// Where the way in which an input was made leaves only one answer, both
-/// implementations must have given it.
-pub fn expect(compare: &Compare, input: &[u8], certain: Option<u32>, number: u32) {
-    if let Some(expected) = certain {
-        if number != expected {
-            compare.fail(
-                "both implementations answer otherwise than the made input was meant",
-                &format!("input: {:02X?}", input),
-                &format!("meant: {}, both: {}", expected, number),
-            );
+/// implementations must have given it: the number, and of a refusal where.
+pub fn expect(compare: &mut Compare, input: &[u8], answer: Answer, number: u32) {
+    let as_meant = match answer {
+        Answer::Accepted => number == 0,
+        Answer::Refused(refusal) => {
+            compare.count_known(Known::marked(refusal.in_wrapper));
+            compare.refusal(number) == refusal
         }
+        Answer::Unknown => true,
+    };
+    if !as_meant {
+        compare.fail(
+            "both implementations answer otherwise than the made input was meant",
+            &format!("input: {}", hex(input)),
+            &format!("meant: {:?}, both: {:?}", answer, compare.refusal(number)),
+        );
     }
 }
 
@@ -166,24 +219,56 @@ pub fn meant(compare: &Compare, number: u32, expected: u32) {
     }
 }
 
-/// Every single-bit flip of some valid payloads, bare and wrapped. Gives the
-/// number of inputs.
+/// Every cut of payloads of every kind, bare and wrapped. Gives the number of inputs.
+pub fn cuts(compare: &mut Compare, round: u64) -> u64 {
+    compare.begin(format!("cuts, round {}", round));
+    let mut rng = rng(0x210, round);
+    let mut cases = 0;
+    for kind in KINDS {
+        for _ in 0..12 {
+            let made = payload(kind, &mut rng);
+            for n in 0..made.bytes.len() {
+                let data = &made.bytes[..n];
+                let number = compare.read(false, data);
+                expect(compare, data, made.answer_of_cut(n), number);
+                same_behind_wrapper(compare, data, number);
+                cases += 2;
+            }
+        }
+    }
+    cases
+}
+
+/// Every single-bit flip of some valid payloads, bare and wrapped. One in the wrapper
+/// makes its byte differ, and one of a zero bit makes that a one. Gives the number of
+/// inputs.
 pub fn bit_flips(compare: &mut Compare, round: u64) -> u64 {
     compare.begin(format!("bit flips, round {}", round));
     let mut rng = rng(0x200, round);
     let mut cases = 0;
     for i in 0..260 {
         let kind = if i == 0 { Kind::Largest } else { Kind::Valid };
-        let mut data = payload(kind, &mut rng);
+        let made = payload(kind, &mut rng);
         let is_wrapped = i % 4 == 1;
+        let mut input = made.bytes.clone();
+        let mut data_begins = 0;
         if is_wrapped {
-            data = wrapped(WrapperKind::Whole, &data, &mut rng);
+            input = wrapped(WrapperKind::Whole, &made, &mut rng).0;
+            data_begins = 8 * WRAPPER.len();
         }
-        for bit in 0..8 * data.len() {
-            data[bit / 8] ^= 0x80 >> (bit % 8);
-            compare.read(is_wrapped, &data);
+        for bit in 0..8 * input.len() {
+            input[bit / 8] ^= 0x80 >> (bit % 8);
+            let number = compare.read(is_wrapped, &input);
+            let answer = if bit < data_begins {
+                Answer::Refused(Refusal::in_wrapper(3, bit / 8))
+            } else if made.is_zero_bit(bit - data_begins) {
+                Answer::Refused(Refusal::at(7, bit - data_begins))
+            } else {
+                Answer::Unknown
+            };
+            expect(compare, &input, answer, number);
             cases += 1;
-            data[bit / 8] ^= 0x80 >> (bit % 8);
+            input[bit / 8] ^= 0x80 >> (bit % 8);
         }
     }
     cases

@@ -4,7 +4,7 @@
 //! before document 01's". So each has a pass of its own, which knows that those
 //! before it found nothing.
 
-use crate::reader::{read_wrapped, Reading, WRAPPER};
+use crate::reader::{read_wrapped, Reading, Refusal, WRAPPER};
 use crate::record::{Record, WRAPPED_BYTES};
 use crate::writer::write_wrapped;
 
@@ -101,7 +101,7 @@ fn chained(bytes: &[u8], at: &mut usize) -> Result<usize, u32> {
 /// 32: "no message at all, a type, size or content that runs past the end, or
 /// an end that is not the single byte 80 after a whole message". So 80 is the
 /// end only where it is the last byte; before any other byte it is the type 128.
-fn messages(bytes: &[u8]) -> Result<Vec<Message>, u32> {
+fn messages(bytes: &[u8]) -> Result<Vec<Message<'_>>, u32> {
     let mut list = Vec::new();
     let mut at = 0;
     while list.is_empty() || bytes[at..] != [TRAILING] {
@@ -122,25 +122,26 @@ fn messages(bytes: &[u8]) -> Result<Vec<Message>, u32> {
 
 /// "The first message of type 4 that begins with our eight wrapper bytes goes
 /// to the existing reader, whose answer stands; the others are passed over."
-/// 33: "none of our messages".
-pub fn read_unit(unit: &[u8]) -> Result<Reading, u32> {
+/// 33: "none of our messages". So an offset is one in that message's data, and the
+/// unit's own refusals have none.
+pub fn read_unit(unit: &[u8]) -> Result<Reading, Refusal> {
     read_unit_by(read_wrapped, unit)
 }
 
 /// The same, with any reader for the message.
 pub fn read_unit_by(
-    read: impl Fn(&[u8]) -> Result<Reading, u32>,
+    read: impl Fn(&[u8]) -> Result<Reading, Refusal>,
     unit: &[u8],
-) -> Result<Reading, u32> {
-    check_header(unit)?;
-    check_emulation(unit)?;
+) -> Result<Reading, Refusal> {
+    check_header(unit).map_err(Refusal::nowhere)?;
+    check_emulation(unit).map_err(Refusal::nowhere)?;
     let bytes = without_emulation(&unit[HEADER.len()..]);
-    for message in messages(&bytes)? {
+    for message in messages(&bytes).map_err(Refusal::nowhere)? {
         if message.payload_type == T35 && message.content.starts_with(&WRAPPER) {
             return read(message.content);
         }
     }
-    Err(33)
+    Err(Refusal::nowhere(33))
 }
 
 /// Appends the bytes, and a 03 before each byte up to 03 that would follow two

@@ -5,7 +5,7 @@
 //! to make what `unit.rs` must never write. What a unit must get follows from
 //! its plan and from the faults that were put into it, not from reading it.
 
-use crate::compare::Compare;
+use crate::compare::{Compare, Known};
 use crate::made::{blocks, flat_record, holding, payload, random_bytes, FlatKind, Kind, Rng};
 use crate::made::{FLAT_KINDS, KINDS};
 use crate::own::READING;
@@ -71,8 +71,9 @@ pub fn plan(messages: &[Message]) -> Plan {
 
 /// What a unit must get.
 enum Meant {
+    /// One of the unit's own refusals, which have no offset.
     Number(u32),
-    /// What the wrapped reader gives to these bytes.
+    /// What the wrapped reader gives to these bytes, its offset too.
     AsWrapped(Vec<u8>),
     /// Not known from the way in which it was made.
     Unknown,
@@ -132,15 +133,18 @@ impl Plan {
 /// Reads the unit and holds the answer to what it must be.
 fn read(compare: &mut Compare, unit: &[u8], expected: &Meant) {
     let number = compare.read_unit(unit);
+    let facts = compare.all_facts();
     let as_meant = match expected {
         Meant::Unknown => true,
         Meant::Number(refusal) => number == *refusal,
         Meant::AsWrapped(content) => {
             let record = compare.record().to_vec();
-            let facts = (compare.bits(), compare.skipped());
             let wrapped = compare.read_lent(true, content, FLAT, READING);
+            if number != 0 {
+                compare.count_known(Known::InUnit);
+            }
             number == wrapped
-                && facts == (compare.bits(), compare.skipped())
+                && facts == compare.all_facts()
                 && (number != 0 || compare.record() == record)
         }
     };
@@ -149,9 +153,14 @@ fn read(compare: &mut Compare, unit: &[u8], expected: &Meant) {
             "both implementations answer otherwise than the made unit was meant",
             &format!("unit of {} bytes: {:02X?}", unit.len(), unit),
             &match expected {
-                Meant::AsWrapped(content) => {
-                    format!("meant: as wrapped {:02X?}, both: {}", content, number)
-                }
+                Meant::AsWrapped(content) => format!(
+                    "meant: as wrapped {:02X?}, both: {} {:?}, wrapped {:?} (bits, skipped, \
+                     offset, in the wrapper)",
+                    content,
+                    number,
+                    facts,
+                    compare.all_facts()
+                ),
                 Meant::Number(refusal) => format!("meant: {}, both: {}", refusal, number),
                 Meant::Unknown => String::new(),
             },
@@ -259,10 +268,10 @@ fn wrapped_payload(record: &[i32; FLAT]) -> Vec<u8> {
 fn any_of_ours(rng: &mut Rng) -> Message {
     match rng.below(4) {
         0 => message(4, &wrapped_payload(&quiet_record(rng))),
-        1 => ours(&payload(Kind::Valid, rng)),
+        1 => ours(&payload(Kind::Valid, rng).bytes),
         _ => {
             let kind = rng.pick(&KINDS);
-            ours(&payload(kind, rng))
+            ours(&payload(kind, rng).bytes)
         }
     }
 }
@@ -311,8 +320,8 @@ fn middling(rng: &mut Rng) -> Plan {
             made.messages.push(other(rng));
         }
         let data = match rng.below(4) {
-            0 => payload(Kind::Valid, rng),
-            1 => payload(Kind::Reserved, rng),
+            0 => payload(Kind::Valid, rng).bytes,
+            1 => payload(Kind::Reserved, rng).bytes,
             _ => wrapped_payload(&quiet_record(rng)).split_off(WRAPPER.len()),
         };
         let at = rng.below(made.messages.len() + 1);

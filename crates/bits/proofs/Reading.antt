@@ -1,21 +1,21 @@
 -- Laws by which the functions that read meet their definitions.
 use Prim.Native.Nat.{ℕ, zero, suc, _+_, _-_, _*_, _/_, _%_, _^_, _<_, _≤_}
 use mathlib.Core.Path.{_≡_, refl, ap, sym, _∙_}
-use mathlib.Core.List.{List, [], _∷_, _++_}
+use mathlib.Core.List.{List, [], _∷_, _++_, append-assoc}
 use mathlib.Core.Bool.{Bool, true, false}
 use native.Mathlib.Omega.{arith}
 use native.Mathlib.Nat.{add-zero, div-one, zero-div}
 use native.Mathlib.Numerals.{add-one}
 use lib.ListN.{length, getD, take, drop, replicate, length-take, length-drop, take-append-drop, drop-of-length-le}
+use lib.IntN.{pos}
 use lib.Pow.{pow-pos}
 use lib.Seq.{drop-drop}
 use borrow.Author.Tests.{le-ltb}
-use Rattle.refusals.specs.Refusals.{refusal, notZero}
-use Rattle.refusals.specs.declared.Refusal.{Refusal}
+use Rattle.refusals.specs.Refusals.{notZero}
 use Rattle.tree.specs.Bits.{code, bitsOf, value, valueFrom}
-use Rattle.tree.specs.Reading.{Fault, numberIn, Out, ok, no, widened, cutOff, overlong, breaks, u, zerosThenOne, ue}
-use Rattle.tree.specs.Syntax.{read, zeroBits}
-use Rattle.tree.specs.Renamed.{renamed, renamedFault}
+use Rattle.tree.specs.Reading.{Fault, numberIn, offsetIn, Out, ok, no, widened, cutOff, overlong, breaks, u, zerosThenOne, ue}
+use Rattle.tree.specs.Syntax.{rangeRule, read, zeroBits}
+use Rattle.tree.specs.Renamed.{renamed}
 use Rattle.tree.proofs.Bits.{length-bits, code-value, code-zero}
 use Rattle.tree.proofs.Elements.{u-ok, u-short, zerosOne, length-zeros-one, codes-zeros-one, zero-more}
 use Rattle.tree.proofs.Renamed.{renamed-u, renamed-ue}
@@ -31,29 +31,30 @@ pub is-ok : {N : Type 0} (o : Out N ℕ) (v n : ℕ) → Is v n ≡ numberOf o �
 is-ok (ok a m) v n e = cc
 is-ok (no f) v n e = let z : _≡_ {A = ℕ} 0 1 = cc in absurd (omega arith)
 
-pub is-no : {N : Type 0} (o : Out N ℕ) (r : Refusal) → Refused r ≡ numberOf o → (f : Fault N) × (o ≡ no f) × (r ≡ refusal (numberIn f))
-is-no (ok a m) r e = let z : _≡_ {A = ℕ} 0 1 = cc in absurd (omega arith)
-is-no (no f) r e = (f, refl, cc)
+-- a fault with that number at that offset
+abbrev pub Told : {N A : Type 0} → Out N A → ℕ → ℕ → Type 0
+Told {N} o k at = (f : Fault N) × (o ≡ no f) × (k ≡ numberIn f) × (at ≡ offsetIn f)
+
+pub is-no : {N : Type 0} (o : Out N ℕ) (k at : ℕ) → Refused k at ≡ numberOf o → Told o k at
+is-no (ok a m) k at e = let z : _≡_ {A = ℕ} 0 1 = cc in absurd (omega arith)
+is-no (no f) k at e = (f, refl, cc, cc)
 
 -- the same of zero bits
 pub spans-ok : {N : Type 0} (o : Out N (Unit {0})) (v n : ℕ) → Is v n ≡ spanOf o → o ≡ ok tt n
 spans-ok (ok a m) v n e = let x : n ≡ m = cc in rw x
 spans-ok (no f) v n e = let z : _≡_ {A = ℕ} 0 1 = cc in absurd (omega arith)
 
-pub spans-no : {N : Type 0} (o : Out N (Unit {0})) (r : Refusal) → Refused r ≡ spanOf o → (f : Fault N) × (o ≡ no f) × (r ≡ refusal (numberIn f))
-spans-no (ok a m) r e = let z : _≡_ {A = ℕ} 0 1 = cc in absurd (omega arith)
-spans-no (no f) r e = (f, refl, cc)
+pub spans-no : {N : Type 0} (o : Out N (Unit {0})) (k at : ℕ) → Refused k at ≡ spanOf o → Told o k at
+spans-no (ok a m) k at e = let z : _≡_ {A = ℕ} 0 1 = cc in absurd (omega arith)
+spans-no (no f) k at e = (f, refl, cc, cc)
 
 -- ---- the name makes no difference to an answer
 
-number-renamed : {N : Type 0} (g : Unit {0} → N) (f : Fault (Unit {0})) → numberIn (renamedFault g f) ≡ numberIn f
-number-renamed g (cutOff at n) = refl
-number-renamed g (overlong at n) = refl
-number-renamed g (breaks r) = refl
-
 answer-renamed : {N : Type 0} (g : Unit {0} → N) (o : Out (Unit {0}) ℕ) → numberOf (renamed g o) ≡ numberOf o
 answer-renamed g (ok v n) = refl
-answer-renamed g (no f) = ap (λ (k : ℕ). Refused (refusal k)) (number-renamed g f)
+answer-renamed g (no (cutOff at n)) = refl
+answer-renamed g (no (overlong at n)) = refl
+answer-renamed g (no (breaks r)) = refl
 
 module _ {N : Type 0} (name : N) (at : ℕ) (s : List Bool) where
   abbrev called : Unit {0} → N
@@ -68,7 +69,7 @@ module _ {N : Type 0} (name : N) (at : ℕ) (s : List Bool) where
 -- an answer behind n bits
 abbrev further : ℕ → Number → Number
 further n (Is v m) = Is v (n + m)
-further n (Refused r) = Refused r
+further n (Refused k at) = Refused k at
 
 span-widened : {N : Type 0} (n : ℕ) (o : Out N (Unit {0})) → spanOf (widened n o) ≡ further n (spanOf o)
 span-widened n (ok z m) = refl
@@ -207,13 +208,11 @@ module _ (n at : ℕ) (l : List Bool) where
       let k : n - m ≡ suc (n - m - 1) = omega arith in
       zeros-go-on m (omega arith) (omega arith) e ∙ rw (d, k, steps.zeros-end nameless (n - m - 1) (at + m)) refl
 
--- a one is among them
-pub zeros-broken : (n at m : ℕ) (l : List Bool) → m ≤ n → (value (take m l) ≡ 0 → ⊥) → (f : Fault (Unit {0})) × (read (zeroBits nameless n) at l ≡ no f) × (numberIn f ≡ notZero)
-unfolding valueFrom
-zeros-broken n at zero l h e = absurd (e refl)
-zeros-broken n at (suc m) [] h e = absurd (e refl)
-zeros-broken zero at (suc m) (b ∷ l) h e = absurd (omega arith)
-zeros-broken (suc n) at (suc m) (true ∷ l) h e = (_, steps.zeros-one nameless n at l, refl)
-zeros-broken (suc n) at (suc m) (false ∷ l) h e =
-    let f = zeros-broken n (at + 1) m l (omega arith) e in
-    (f .0, steps.zeros-zero nameless n at l ∙ ap (widened 1) (f .1), f .2)
+-- the first one among them, behind k zeros
+pub zeros-broken : (n at k : ℕ) (l : List Bool) → k < n → k + 1 ≤ length l → value (take (k + 1) l) ≡ 1
+    → read (zeroBits nameless n) at l ≡ no (breaks (rangeRule nameless notZero (pos 0) (pos 0) (at + k) (pos 1)))
+zeros-broken n at k l h j e =
+    let d : n - k ≡ suc (n - k - 1) = omega arith in
+    let z : l ≡ replicate k false ++ (true ∷ drop (k + 1) l) = zeros-and-one l k j e ∙ append-assoc (replicate k false) (true ∷ []) (drop (k + 1) l) in
+    ap (read (zeroBits nameless n) at) z ∙ zero-bits-past k n at (true ∷ drop (k + 1) l) (omega arith)
+    ∙ rw (d, steps.zeros-one nameless (n - k - 1) (at + k) (drop (k + 1) l)) refl

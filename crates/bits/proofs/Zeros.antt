@@ -3,9 +3,9 @@ use Prim.Native.Nat.{ℕ, _+_, _-_, _*_, _/_, _%_, _^_, _<_, _≤_}
 use mathlib.Core.Path.{_≡_, refl, ap, sym, _∙_}
 use mathlib.Core.List.{List}
 use native.Mathlib.Omega.{arith}
-use native.Mathlib.Nat.{add-zero, mul-one, zero-mul, zero-div, mul-mod-left}
+use native.Mathlib.Nat.{add-zero, mul-one, zero-mul, zero-div, mul-mod-left, lt-of-not-le}
 use lib.ListN.{length, getD, take, drop}
-use lib.Pow.{shl-exact, shl-shr, shr-shr, mod-pow-add}
+use lib.Pow.{pow-lt, shl-exact, shr-lt, shl-shr, shr-shr, mod-pow-add}
 use lib.Seq.{drop-drop}
 use Rattle.refusals.specs.Refusals.{notZero, pastEnd}
 use Rattle.tree.specs.Bits.{bitsOf, value}
@@ -27,6 +27,7 @@ pub record Checked (s : List ℕ) (at n i have v left : ℕ) : Type 0 where
   pub rest : v ≡ value (take have (drop (at + (n - left)) (bitsOf s))) * 2 ^ (8 - have)
   pub ends : at + (n - left) + have ≡ 8 * (i + 1)
   pub there : i < length s
+  pub byte : v < 2 ^ 8
   pub most : have ≤ 8
   pub some : 0 < have
   pub few : left ≤ n
@@ -40,6 +41,17 @@ moved b r h k =
     ap (λ (x : ℕ). x % 256) (shl-exact {a = b} 8 r 32 k (omega arith)) ∙ ap (λ (x : ℕ). b * 2 ^ r % 2 ^ x) e ∙ mod-pow-add (b * 2 ^ r) (8 - r) r
     ∙ rw (shl-shr b r, mul-mod-left b (2 ^ r), add-zero (b % 2 ^ (8 - r) * 2 ^ r)) refl
 
+-- the first one of a byte stands before place m if one of its first m bits is a one
+first-within : (v m r : ℕ) → m ≤ 8 → r < 8 → (v / 2 ^ (8 - m) ≡ 0 → ⊥) → v / 2 ^ (8 - (r + 1)) ≡ 1 → r < m
+first-within v m r h k e q = lt-of-not-le (λ (l : m ≤ r). e (none l))
+  where
+    none : m ≤ r → v / 2 ^ (8 - m) ≡ 0
+    none l =
+        let d : 8 - (r + 1) + (r + 1 - m) ≡ 8 - m = omega arith in
+        let p : 2 ^ 0 < 2 ^ (0 + (r + 1 - m)) = pow-lt {i = 0} {j = 0 + (r + 1 - m)} (omega arith) in
+        let z : 1 / 2 ^ (r + 1 - m) < 1 = shr-lt 0 (r + 1 - m) p in
+        sym (rw d at (shr-shr v (8 - (r + 1)) (r + 1 - m))) ∙ rw q (omega (arith, z))
+
 module _ (s : List ℕ) (bytes : (i : ℕ) → getD s i 0 < 256) (at n : ℕ) where
   pub checked-none : 0 < n → at / 8 < length s
       → Checked s at n (at / 8) (8 - at % 8) (getD s (at / 8) 0 * 2 ^ (at % 8) % 4294967296 % 256) n
@@ -50,6 +62,7 @@ module _ (s : List ℕ) (bytes : (i : ℕ) → getD s i 0 < 256) (at n : ℕ) wh
         rest = rw (e, add-zero at, r, ← rest-of-byte s bytes at l (2 ^ (8 - at % 8)) refl) (moved (getD s (at / 8) 0) (at % 8) (omega arith) (bytes (at / 8)));
         ends = omega arith;
         there = l;
+        byte = omega arith;
         most = omega arith;
         some = omega arith;
         few = omega arith;
@@ -68,20 +81,25 @@ module _ (s : List ℕ) (bytes : (i : ℕ) → getD s i 0 < 256) (at n : ℕ) wh
     are-zeros : v ≡ 0 → value (take have (drop here (bitsOf s))) ≡ 0
     are-zeros e = sym bits-left ∙ rw e (zero-div (2 ^ (8 - have)))
 
-    -- a one among m bits that are left decides
-    broken : (m : ℕ) → m ≤ left → (value (take m (drop here (bitsOf s))) ≡ 0 → ⊥) → refusedNumber notZero ≡ spanOf (answerFor s at n)
-    broken m h e =
-        let f = zeros-broken left here m (drop here (bitsOf s)) h e in
-        ap refusedNumber (sym (f .2)) ∙ sym (ap spanOf (sym (x .answer) ∙ ap (widened (n - left)) (f .1)))
+    -- the first one among m bits that are left, behind r zeros of the byte, decides
+    broken : (m r : ℕ) → m ≤ left → m ≤ have → (v / 2 ^ (8 - m) ≡ 0 → ⊥) → r < 8 → v / 2 ^ (8 - (r + 1)) ≡ 1 → refusedNumber notZero (here + r) ≡ spanOf (answerFor s at n)
+    broken m r h k e l q =
+        let f = first-within v m r (omega (arith, x .most)) l e q in
+        let d : 8 - have + (have - (r + 1)) ≡ 8 - (r + 1) = omega (arith, x .most) in
+        let t = length-rest s here in
+        let one : value (take (r + 1) (drop here (bitsOf s))) ≡ 1 =
+        sym (front (drop here (bitsOf s)) have (r + 1) (omega arith) (omega (arith, t, x .ends, x .there))) ∙ ap (λ (y : ℕ). y / 2 ^ (have - (r + 1))) (sym bits-left) ∙ shr-shr v (8 - have) (have - (r + 1)) ∙ rw d q in
+        sym (ap spanOf (sym (x .answer) ∙ ap (widened (n - left)) (zeros-broken left here r (drop here (bitsOf s)) (omega arith) (omega (arith, t, x .ends, x .there)) one)))
 
-    pub checked-broken : have < left → (v ≡ 0 → ⊥) → refusedNumber notZero ≡ spanOf (answerFor s at n)
-    checked-broken h e = broken have (omega arith) (λ z. e (x .rest ∙ ap (λ (y : ℕ). y * 2 ^ (8 - have)) z ∙ zero-mul (2 ^ (8 - have))))
+    pub checked-broken : have < left → (v ≡ 0 → ⊥) → (r : ℕ) → r < 8 → v / 2 ^ (8 - (r + 1)) ≡ 1 → refusedNumber notZero (here + r) ≡ spanOf (answerFor s at n)
+    checked-broken h e r l q =
+        broken have r (omega arith) (omega arith) (λ z. e (x .rest ∙ ap (λ (y : ℕ). y * 2 ^ (8 - have)) (sym bits-left ∙ z) ∙ zero-mul (2 ^ (8 - have)))) l q
 
     -- the input ends behind the byte
-    pub checked-end : have < left → v ≡ 0 → length s ≤ i + 1 → refusedNumber pastEnd ≡ spanOf (answerFor s at n)
+    pub checked-end : have < left → v ≡ 0 → length s ≤ i + 1 → refusedNumber pastEnd (8 * (i + 1)) ≡ spanOf (answerFor s at n)
     checked-end h e l =
         let d = zeros-end left here (drop here (bitsOf s)) have (omega (arith, length-rest s here, x .ends, x .there)) h (are-zeros e) in
-        sym (ap spanOf (sym (x .answer) ∙ ap (widened (n - left)) d))
+        ap (refusedNumber pastEnd) (sym (x .ends)) ∙ sym (ap spanOf (sym (x .answer) ∙ ap (widened (n - left)) d))
 
     -- the next byte
     pub checked-more : have < left → v ≡ 0 → i + 1 < length s → Checked s at n (i + 1) 8 (getD s (i + 1) 0) (left - have)
@@ -95,6 +113,7 @@ module _ (s : List ℕ) (bytes : (i : ℕ) → getD s i 0 < 256) (at n : ℕ) wh
           rest = rw (p, q, mul-one (value (take 8 (drop (8 * (i + 1)) (bitsOf s))))) (sym (byte-is-bits s bytes (i + 1) l));
           ends = omega (arith, p, q);
           there = l;
+          byte = omega (arith, bytes (i + 1));
           most = omega arith;
           some = omega arith;
           few = omega (arith, x .few);
@@ -111,8 +130,8 @@ module _ (s : List ℕ) (bytes : (i : ℕ) → getD s i 0 < 256) (at n : ℕ) wh
         sym (rw e at (shr-shr v (8 - have) (have - left))) ∙ ap (λ (y : ℕ). y / 2 ^ (have - left)) bits-left
         ∙ front (drop here (bitsOf s)) have left h (omega (arith, length-rest s here, x .ends, x .there))
 
-    pub checked-last-broken : left ≤ have → (v / 2 ^ (8 - left) ≡ 0 → ⊥) → refusedNumber notZero ≡ spanOf (answerFor s at n)
-    checked-last-broken h e = broken left (omega arith) (λ z. e (last-bits h ∙ z))
+    pub checked-last-broken : left ≤ have → (v / 2 ^ (8 - left) ≡ 0 → ⊥) → (r : ℕ) → r < 8 → v / 2 ^ (8 - (r + 1)) ≡ 1 → refusedNumber notZero (here + r) ≡ spanOf (answerFor s at n)
+    checked-last-broken h e r l q = broken left r (omega arith) h e l q
 
     pub checked-all : left ≤ have → v / 2 ^ (8 - left) ≡ 0 → Is 0 n ≡ spanOf (answerFor s at n)
     unfolding read zeroBits

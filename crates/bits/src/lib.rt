@@ -1,9 +1,9 @@
-// Bits of a lent slice, most significant first: u(n), ue(v) and zero bits, read at a bit position, and the sign of i(n). Any position gets an
-// answer, and nothing here knows what the bits mean.
-use refusals::Refusal;
+// Bits of a lent slice, most significant first: u(n), ue(v) and zero bits, read at a bit position, and the sign of i(n). Any position that 32
+// bits hold gets an answer, and nothing here knows what the bits mean.
 ghost use mathlib.Core.Path.{_≡_};
 ghost use Prim.Native.Nat.{ℕ, _+_, _-_, _*_, _/_, _<_, _≤_, _^_};
 ghost use lib.ListN.{length, drop, take};
+ghost use Rattle.refusals.specs.Refusals.{notZero};
 ghost use Rattle.tree.specs.Bits.{bitsOf, value};
 ghost use Rattle.tree.specs.Reading.{u, ue, signedOf};
 ghost use Rattle.tree.specs.Syntax.{read, zeroBits};
@@ -15,14 +15,16 @@ pub const MOST_ZEROS: usize = 31;
 // A number that was read and how many bits it took, or why there is none.
 pub enum Number {
     Is { value: u32, width: usize },
-    Refused { why: Refusal },
+    Refused { number: u8, offset: u32 },
 }
 
-fn refuse(number: u8) -> Number
-    ensures { λ r. ⌜ r ≡ refusedNumber number ⌝ }
+fn refuse(number: u8, at: usize) -> Number
+    requires { ⌜ at < 2 ^ 32 ⌝ }
+    ensures { λ r. ⌜ r ≡ refusedNumber number at ⌝ }
 {
     Number::Refused {
-        why: Refusal { number },
+        number,
+        offset: at as u32,
     }
 }
 
@@ -36,14 +38,14 @@ pub fn field(s: &[u8], at: usize, n: usize) -> u32
 
 // u(n), for every n up to 32.
 pub fn read_u(s: &[u8], at: usize, n: usize) -> Number
-    requires { ⌜ n ≤ 32 ⌝ }
+    requires { ⌜ (at < 2 ^ 32) × (n ≤ 32) ⌝ }
     ensures { λ r. ⌜ r ≡ numberOf (u nameless n at (drop at (bitsOf (now (s .entry))))) ⌝ }
 {
     if n == 0 {
         return Number::Is { value: 0, width: 0 };
     }
     if s.len() < at / 8 + (at % 8 + n + 7) / 8 {
-        return refuse(Refusal::PAST_END);
+        return refuse(refusals::PAST_END, at);
     }
     Number::Is {
         value: field(s, at, n),
@@ -70,35 +72,38 @@ enum Lead {
         next: usize,
     },
     Refused {
-        why: Refusal,
+        number: u8,
+        offset: u32,
     },
 }
 
-fn refuse_lead(number: u8) -> Lead
-    ensures { λ r. ⌜ r ≡ refusedLead number ⌝ }
+fn refuse_lead(number: u8, at: usize) -> Lead
+    requires { ⌜ at < 2 ^ 32 ⌝ }
+    ensures { λ r. ⌜ r ≡ refusedLead number at ⌝ }
 {
     Lead::Refused {
-        why: Refusal { number },
+        number,
+        offset: at as u32,
     }
 }
 
 fn read_lead(s: &[u8], at: usize, most: usize) -> Lead
-    requires { ⌜ most ≤ zerosThatFit ⌝ }
+    requires { ⌜ (at < 2 ^ 32) × (most ≤ zerosThatFit) ⌝ }
     ensures { λ r. ⌜ Leads (now (s .entry)) at most r ⌝ }
 {
     let mut i = at / 8;
     if s.len() <= i {
-        return refuse_lead(Refusal::PAST_END);
+        return refuse_lead(refusals::PAST_END, at);
     }
     let mut have = 8 - at % 8;
     let mut v = s[i] as u64 % (1u64 << have);
     while v == 0 {
         if most < have {
-            return refuse_lead(Refusal::TOO_MANY_ZEROS);
+            return refuse_lead(refusals::TOO_MANY_ZEROS, at);
         }
         i += 1;
         if s.len() <= i {
-            return refuse_lead(Refusal::PAST_END);
+            return refuse_lead(refusals::PAST_END, at);
         }
         v = s[i] as u64;
         have += 8;
@@ -127,7 +132,7 @@ fn read_code(s: &[u8], at: usize, lead: u64, have: usize, next: usize, zeros: us
     let width = 2 * zeros + 1;
     if have < width {
         if s.len() - next < (width - have + 7) / 8 {
-            return refuse(Refusal::PAST_END);
+            return refuse(refusals::PAST_END, at);
         }
     }
     let mut v = lead;
@@ -146,11 +151,11 @@ fn read_code(s: &[u8], at: usize, lead: u64, have: usize, next: usize, zeros: us
 
 // ue(v) with at most `most` zeros, for every such limit whose numbers fit: up to 31.
 pub fn read_ue(s: &[u8], at: usize, most: usize) -> Number
-    requires { ⌜ most ≤ zerosThatFit ⌝ }
+    requires { ⌜ (at < 2 ^ 32) × (most ≤ zerosThatFit) ⌝ }
     ensures { λ r. ⌜ r ≡ numberOf (ue nameless most at (drop at (bitsOf (now (s .entry))))) ⌝ }
 {
     match read_lead(s, at, most) {
-        Lead::Refused { why } => Number::Refused { why },
+        Lead::Refused { number, offset } => Number::Refused { number, offset },
         Lead::Is {
             value: lead,
             width: have,
@@ -158,7 +163,7 @@ pub fn read_ue(s: &[u8], at: usize, most: usize) -> Number
         } => {
             let zeros = zeros_before(lead, have);
             if most < zeros {
-                refuse(Refusal::TOO_MANY_ZEROS)
+                refuse(refusals::TOO_MANY_ZEROS, at)
             } else {
                 read_code(s, at, lead, have, next, zeros)
             }
@@ -166,10 +171,19 @@ pub fn read_ue(s: &[u8], at: usize, most: usize) -> Number
     }
 }
 
-// n zero bits, of which the first that is a one or that is missing decides. What is left of a byte is looked at in one, its first bit as the
-// most significant of eight.
+// The first one of bits from a position on, which are not all zeros and stand as the most significant of a byte v: it decides where zeros
+// are asked for.
+fn refuse_one(at: usize, v: u32) -> Number
+    requires { ⌜ (at < 2 ^ 31) × (0 < v) × (v < 2 ^ 8) ⌝ }
+    ensures { λ r. ⌜ ((k : ℕ) × (k < 8) × (v / 2 ^ (8 - (k + 1)) ≡ 1) × (r ≡ refusedNumber notZero (at + k))) ⌝ }
+{
+    refuse(refusals::NOT_ZERO, at + zeros_before(v as u64, 8))
+}
+
+// n zero bits, of which the first that is a one or that is missing decides, at its own offset. What is left of a byte is looked at in one, its
+// first bit as the most significant of eight.
 pub fn read_zeros(s: &[u8], at: usize, n: usize) -> Number
-    requires { ⌜ n < 2 ^ 32 ⌝ }
+    requires { ⌜ at + n < 2 ^ 31 ⌝ }
     ensures { λ r. ⌜ r ≡ spanOf (read (zeroBits nameless n) at (drop at (bitsOf (now (s .entry))))) ⌝ }
 {
     if n == 0 {
@@ -177,25 +191,25 @@ pub fn read_zeros(s: &[u8], at: usize, n: usize) -> Number
     }
     let mut i = at / 8;
     if s.len() <= i {
-        return refuse(Refusal::PAST_END);
+        return refuse(refusals::PAST_END, at);
     }
     let mut have = 8 - at % 8;
     let mut v = ((s[i] as u32) << (at % 8)) % 256;
     let mut left = n;
     while have < left {
         if v != 0 {
-            return refuse(Refusal::NOT_ZERO);
+            return refuse_one(at + (n - left), v);
         }
         i += 1;
         if s.len() <= i {
-            return refuse(Refusal::PAST_END);
+            return refuse(refusals::PAST_END, 8 * i);
         }
         v = s[i] as u32;
         left -= have;
         have = 8;
     }
     if v >> (8 - left) != 0 {
-        return refuse(Refusal::NOT_ZERO);
+        return refuse_one(at + (n - left), v);
     }
     Number::Is { value: 0, width: n }
 }

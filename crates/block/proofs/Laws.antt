@@ -10,10 +10,9 @@ use lib.Dec.{eqb, leb}
 use lib.IntN.{ℤ, pos, negsuc}
 use lib.ListN.{length, drop}
 use lib.Seq.{drop-drop}
-use Rattle.refusals.specs.Refusals.{refusal, pastEnd, wrongLength, notInOrder}
-use Rattle.refusals.specs.declared.Refusal.{Refusal}
+use Rattle.refusals.specs.Refusals.{pastEnd, wrongLength, notInOrder}
 use Rattle.tree.specs.Bits.{bitsOf}
-use Rattle.tree.specs.Reading.{between, allows, Rule, meets, Fault, numberIn, breaks, Out, ok, no, Reader, widened, andThen, mapped, u, ue}
+use Rattle.tree.specs.Reading.{between, allows, Rule, meets, Fault, breaks, Out, ok, no, Reader, widened, andThen, mapped, u, ue}
 use Rattle.tree.specs.Coding.{unsigned, totalWidth, mostZeros, Descriptor, variable, fixed, natural, holdsIn, widthIn}
 use Rattle.tree.specs.Syntax.{Syntax, done, must, any, codingOf, row, zeroBits, read, _>>=_}
 use Rattle.tree.specs.Meaning.{Element, sumOfWidths, complete, Follow, Means}
@@ -27,6 +26,7 @@ use Rattle.tree.proofs.Spells.{apart-complete, any-only, must-only, done-only, 
 use Rattle.tree.proofs.Steps.{read-any, bits-there, bits-short}
 use Rattle.tree.proofs.Widths.{widths-fields, variable-width}
 use Rattle.tree.proofs.Accepted.{widths-zeros}
+use Rattle.bits.proofs.Reading.{Told}
 use Rattle.record.specs.declared.Block.{Block}
 use Rattle.record.specs.declared.Block.the-variants.{Nothing, Level1, Level2, Level5}
 use Rattle.record.specs.Name.{Name, «ext_block_length», «ext_block_level», «ext_dm_alignment_zero_bit»}
@@ -275,7 +275,7 @@ shifted n (ok (passed l k zs) m) = refl
 shifted n (no r) = refl
 
 -- what an answer says of the reading that it is of
-pub part-kept : (o : Out Name Item) (b : Block) (n : ℕ) → Kept b n ≡ partOf o → o ≡ ok (kept b) n
+pub part-kept : (o : Out Name Item) (b : Block) (n : ℕ) → Kept n b ≡ partOf o → o ≡ ok (kept b) n
 part-kept (ok (kept a) m) b n e = cc
 part-kept (ok (passed l k zs) m) b n e = let z : _≡_ {A = ℕ} 0 1 = cc in clash z
 part-kept (no f) b n e = let z : _≡_ {A = ℕ} 0 1 = cc in clash z
@@ -285,17 +285,17 @@ part-passed (ok (kept a) m) n e = let z : _≡_ {A = ℕ} 0 1 = cc in clash z
 part-passed (ok (passed l k zs) m) n e = (l, k, zs, cc)
 part-passed (no f) n e = let z : _≡_ {A = ℕ} 0 1 = cc in clash z
 
-pub part-no : (o : Out Name Item) (r : Refusal) → Refused r ≡ partOf o → (f : Fault Name) × (o ≡ no f) × (r ≡ refusal (numberIn f))
-part-no (ok (kept a) m) r e = let z : _≡_ {A = ℕ} 0 1 = cc in clash z
-part-no (ok (passed l k zs) m) r e = let z : _≡_ {A = ℕ} 0 1 = cc in clash z
-part-no (no f) r e = (f, refl, cc)
+pub part-no : (o : Out Name Item) (j w : ℕ) → Refused j w ≡ partOf o → Told o j w
+part-no (ok (kept a) m) j w e = let z : _≡_ {A = ℕ} 0 1 = cc in clash z
+part-no (ok (passed l k zs) m) j w e = let z : _≡_ {A = ℕ} 0 1 = cc in clash z
+part-no (no f) j w e = (f, refl, cc, cc)
 
 -- the answer of a table whose first part gave o, and whose second goes on from the position where that ended: a refusal of the first;
 -- else a refusal or an answer of the second
 module _ {A : Type 0} (t : Syntax Name Item) (o : Out Name A) (g : A → Syntax Name Item) (at : ℕ) (bits : List Bool)
     (q : read t at (drop at bits) ≡ andThen o (λ a. read (g a)) at (drop at bits)) where
-  pub first-no : (r : Refusal) → (f : Fault Name) × (o ≡ no f) × (r ≡ refusal (numberIn f)) → Refused r ≡ partOf (read t at (drop at bits))
-  first-no r (f, e, x) = sym (ap partOf q ∙ rw (e, x) refl)
+  pub first-no : (j w : ℕ) → Told o j w → Refused j w ≡ partOf (read t at (drop at bits))
+  first-no j w (f, e, x, y) = sym (ap partOf q ∙ rw (e, x, y) refl)
 
   pub second-on : (a : A) (n : ℕ) → o ≡ ok a n → partBehind n (partOf (read (g a) (at + n) (drop (at + n) bits))) ≡ partOf (read t at (drop at bits))
   second-on a n e = shifted n (read (g a) (at + n) (drop (at + n) bits)) ∙ sym (ap partOf q ∙ rw (e, drop-drop n at bits) refl)
@@ -305,16 +305,16 @@ module _ (start l : ℕ) (b : Block) (at : ℕ) (bits : List Bool) (n : ℕ) (e 
   closing : partBehind n (partOf (read (ordered start (kept b)) (at + n) (drop (at + n) bits))) ≡ partOf (read (afterFields start l b) at (drop at bits))
   closing = second-on (afterFields start l b) (read (zeroBits «ext_dm_alignment_zero_bit» (padding l)) at (drop at bits)) (λ z. ordered start (kept b)) at bits (read-closing start l b at (drop at bits)) tt n e
 
-  pub in-order : inOrder b ≡ true → Kept b n ≡ partOf (read (afterFields start l b) at (drop at bits))
+  pub in-order : inOrder b ≡ true → Kept n b ≡ partOf (read (afterFields start l b) at (drop at bits))
   unfolding read
   in-order h =
       let o : read (ordered start (kept b)) (at + n) (drop (at + n) bits) ≡ ok (kept b) 0 = read-in-order (λ o. done (kept b)) (at + n) (drop (at + n) bits) start b h in
-      ap (Kept b) (sym (add-zero n)) ∙ ap (λ (x : Out Name Item). partBehind n (partOf x)) (sym o) ∙ closing
+      ap (λ (w : ℕ). Kept w b) (sym (add-zero n)) ∙ ap (λ (x : Out Name Item). partBehind n (partOf x)) (sym o) ∙ closing
 
-  pub out-of-order : inOrder b ≡ false → refusedPart notInOrder ≡ partOf (read (afterFields start l b) at (drop at bits))
+  pub out-of-order : inOrder b ≡ false → refusedPart notInOrder start ≡ partOf (read (afterFields start l b) at (drop at bits))
   out-of-order h =
       let o = read-not-in-order (λ o. done (kept b)) (at + n) (drop (at + n) bits) start b h in
-      ap refusedPart (sym (o .1)) ∙ ap (λ (x : Out Name Item). partBehind n (partOf x)) (sym (o .2)) ∙ closing
+      rw (← o .1) (ap (refusedPart (o .0 .number)) (sym (o .2))) ∙ ap (λ (x : Out Name Item). partBehind n (partOf x)) (sym (o .3)) ∙ closing
 
 -- the body: 9 before the content
 module _ (start n l at : ℕ) (s : List Bool) where
@@ -324,7 +324,7 @@ module _ (start n l at : ℕ) (s : List Bool) where
   known-body : known l ≡ true → read (body start (pos n) (pos l)) at s ≡ cond (eqb n (level l .bytes)) (read (contentFrom start l) at s) (no (breaks (lengthRule start (pos n) l)))
   known-body h = read-own-length rest at s start n l h ∙ ap (λ (t : Bool). cond (eqb n (level l .bytes)) (read (cond t (contentFrom start l) (reservedContent l n)) at s) (no (breaks (lengthRule start (pos n) l)))) h
 
-  pub body-length : known l ≡ true → (n ≡ level l .bytes → ⊥) → refusedPart wrongLength ≡ partOf (read (body start (pos n) (pos l)) at s)
+  pub body-length : known l ≡ true → (n ≡ level l .bytes → ⊥) → refusedPart wrongLength start ≡ partOf (read (body start (pos n) (pos l)) at s)
   body-length h k = sym (ap partOf (known-body h) ∙ rw (ne-eqb n (level l .bytes) k) refl)
 
   pub body-is : known l ≡ true → n ≡ level l .bytes → partOf (read (contentFrom start l) at s) ≡ partOf (read (body start (pos n) (pos l)) at s)
@@ -333,7 +333,7 @@ module _ (start n l at : ℕ) (s : List Bool) where
   reserved-body : known l ≡ false → read (body start (pos n) (pos l)) at s ≡ cond (leb n mostReserved) (read (reservedContent l n) at s) (no (breaks (lengthRule start (pos n) l)))
   reserved-body h = read-reserved-length rest at s start n l h ∙ ap (λ (t : Bool). cond (leb n mostReserved) (read (cond t (contentFrom start l) (reservedContent l n)) at s) (no (breaks (lengthRule start (pos n) l)))) h
 
-  pub body-too-long : known l ≡ false → mostReserved < n → refusedPart wrongLength ≡ partOf (read (body start (pos n) (pos l)) at s)
+  pub body-too-long : known l ≡ false → mostReserved < n → refusedPart wrongLength start ≡ partOf (read (body start (pos n) (pos l)) at s)
   body-too-long h k = sym (ap partOf (reserved-body h) ∙ rw (lt-leb n mostReserved k) refl)
 
   pub body-reserved : known l ≡ false → n ≤ mostReserved → partOf (read (reservedContent l n) at s) ≡ partOf (read (body start (pos n) (pos l)) at s)
@@ -353,5 +353,5 @@ module _ (l n at : ℕ) (s : List ℕ) where
       go : (zs : List ℤ) × (read (row (reservedBits n)) at (drop at (bitsOf s)) ≡ ok zs (8 * n)) → Passed (8 * n) ≡ partOf (read (reservedContent l n) at (drop at (bitsOf s)))
       go (zs, e) = sym (ap partOf (reserved-read ∙ ap (mapped (passed l n)) e))
 
-  pub cut-short : at ≤ 8 * length s → 8 * length s < at + 8 * n → refusedPart pastEnd ≡ partOf (read (reservedContent l n) at (drop at (bitsOf s)))
-  cut-short b h = sym (ap partOf (reserved-read ∙ ap (mapped (passed l n)) (bits-short «ext_dm_alignment_zero_bit» (8 * n) at (drop at (bitsOf s)) (omega (arith, length-rest s at)))))
+  pub cut-short : at ≤ 8 * length s → 8 * length s < at + 8 * n → refusedPart pastEnd (8 * length s) ≡ partOf (read (reservedContent l n) at (drop at (bitsOf s)))
+  cut-short b h = ap (refusedPart pastEnd) (omega (arith, length-rest s at)) ∙ sym (ap partOf (reserved-read ∙ ap (mapped (passed l n)) (bits-short «ext_dm_alignment_zero_bit» (8 * n) at (drop at (bitsOf s)) (omega (arith, length-rest s at)))))

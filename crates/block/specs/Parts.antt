@@ -2,8 +2,7 @@
 use Prim.Native.Nat.{ℕ, _+_}
 use mathlib.Core.Bool.{cond}
 use lib.IntN.{ℤ}
-use Rattle.refusals.specs.Refusals.{refusal}
-use Rattle.tree.specs.Reading.{numberIn, Out, ok, no}
+use Rattle.tree.specs.Reading.{numberIn, offsetIn, Out, ok, no}
 use Rattle.tree.specs.Coding.{unsigned, fixed, natural}
 use Rattle.tree.specs.Syntax.{Syntax, done, must, any, row, zeroBits, _>>=_}
 use Rattle.record.specs.declared.Block.{Block}
@@ -15,25 +14,25 @@ use Rattle.block.specs.declared.Part.the-variants.{Kept, Passed, Refused
 
 -- of a block that is passed over only the width is told
 abbrev pub partOf : Out Name Item → Part
-partOf (ok (kept b) n) = Kept b n
+partOf (ok (kept b) n) = Kept n b
 partOf (ok (passed l m zs) n) = Passed n
-partOf (no f) = Refused (refusal (numberIn f))
+partOf (no f) = Refused (numberIn f) (offsetIn f)
 
--- a refusal, by its number
-abbrev pub refusedPart : ℕ → Part
-refusedPart n = Refused (refusal n)
+-- a refusal, by its number and where it is found
+abbrev pub refusedPart : ℕ → ℕ → Part
+refusedPart n at = Refused n at
 
 -- the same, behind n bits that are taken already
 abbrev pub partBehind : ℕ → Part → Part
-partBehind n (Kept b width) = Kept b (n + width)
+partBehind n (Kept width b) = Kept (n + width) b
 partBehind n (Passed width) = Passed (n + width)
-partBehind n (Refused r) = Refused r
+partBehind n (Refused k at) = Refused k at
 
 -- how many bits it took
 abbrev pub partTook : Part → ℕ
-partTook (Kept b width) = width
+partTook (Kept width b) = width
 partTook (Passed width) = width
-partTook (Refused r) = 0
+partTook (Refused k at) = 0
 
 -- what follows the fields of a block of level l that began at `start`: its zero bits, then the order of level 1
 abbrev pub afterFields : (start l : ℕ) → Block → Syntax Name Item

@@ -1,35 +1,37 @@
 -- Laws by which the functions that read the fields of a level meet their definitions.
-use Prim.Native.Nat.{ℕ, _+_, _-_, _*_, _/_, _%_, _^_, _<_, _≤_}
-use mathlib.Core.Path.{_≡_, refl, ap}
+use Prim.Native.Nat.{ℕ, suc, _+_, _-_, _*_, _/_, _%_, _^_, _<_, _≤_}
+use mathlib.Core.Path.{_≡_, refl, ap, sym, _∙_}
 use mathlib.Core.List.{List, [], _∷_, _++_, map}
 use mathlib.Core.Bool.{Bool, true, false, cond}
 use native.Mathlib.Omega.{arith}
-use borrow.Author.Tests.{ltb-true, ltb-false, ne-eqb}
-use lib.Dec.{ltb}
+use native.Mathlib.Nat.{add-zero, zero-mul, add-mul, div-eq-of-lt, div-eq-sub-div}
+use borrow.Author.Tests.{ltb-true, ltb-false, leb-true, leb-false, le-leb, lt-leb, ne-eqb}
+use lib.Dec.{leb, ltb}
 use lib.IntN.{ℤ}
 use lib.ListN.{length, take, drop, take-append-drop}
 use lib.Pow.{pow-mono}
 use lib.Seq.{drop-drop}
 use mir.Syntax.{w16}
 use mir.Val.{SFits}
-use Rattle.refusals.specs.Refusals.{refusal, pastEnd}
-use Rattle.refusals.specs.declared.Refusal.{Refusal}
+use Rattle.refusals.specs.Refusals.{pastEnd}
 use Rattle.tree.specs.Bits.{bitsOf, value}
-use Rattle.tree.specs.Reading.{Fault, cutOff, numberIn, Out, ok, no, mapped, signedOf}
+use Rattle.tree.specs.Reading.{Fault, cutOff, numberIn, offsetIn, Out, ok, no, mapped, signedOf}
 use Rattle.tree.specs.Coding.{Coding, widthOf, totalWidth}
 use Rattle.tree.specs.Syntax.{Field, codingOf, row, read}
 use Rattle.tree.proofs.Elements.{twice-half, signed-low, signed-high}
 use Rattle.tree.proofs.Bits.{length-rest}
 use Rattle.tree.proofs.Steps.{fieldValue, valuesIn, cutIn, row-there, row-cut}
 use Rattle.window.proofs.Laws.{within}
+use Rattle.bits.proofs.Reading.{Told}
 use Rattle.record.specs.declared.Block.{Block}
 use Rattle.record.specs.declared.Block.the-variants.{Nothing}
 use Rattle.record.specs.Name.{Name}
 use Rattle.record.specs.Level.{Level, fieldsOf, codings}
 use Rattle.record.proofs.Laws.{no-level}
 use Rattle.syntax.specs.Data.{blockOf}
+use Rattle.fields.specs.declared.Step.{Step}
 use Rattle.fields.specs.declared.Step.the-variants.{Is, Refused}
-use Rattle.fields.specs.Step.{stepOf}
+use Rattle.fields.specs.Step.{stepOf, refusedStep, wholeFields}
 
 -- ---- fields
 
@@ -72,16 +74,54 @@ values-at k cs s at h =
     let y = word-values (drop k cs) (drop (at + w) (bitsOf s)) (totalWidth (drop k cs)) 0 (omega arith) (omega (arith, length-rest s (at + w))) in
     rw (← x, ← y, ← drop-drop w at (bitsOf s)) (rw take-append-drop at (values-joined (take k cs) (drop k cs) (drop at (bitsOf s))))
 
--- the number of a field that is cut off
-cut-number : {N : Type 0} (f : Field N) (fs : List (Field N)) (at n : ℕ) → numberIn (cutIn f fs at n) ≡ pastEnd
-unfolding cutIn
-cut-number f [] at n = refl
-cut-number {N} f (g ∷ fs) at n = go (cut-number g fs (at + widthOf (f .coding)) (n - widthOf (f .coding))) (ltb n (widthOf (f .coding)))
+-- ---- which field is cut off
+
+-- a field and those behind it have one width, but for the last
+abbrev pub OneWidth : {N : Type 0} → ℕ → Field N → List (Field N) → Type 0
+OneWidth w f [] = Unit {0}
+OneWidth w f (g ∷ fs) = (widthOf (f .coding) ≡ w) × OneWidth w g fs
+
+-- with one whole field more
+one-whole-more : (n w k : ℕ) → 0 < w → w ≤ n → wholeFields n w (suc k) ≡ w + wholeFields (n - w) w k
+one-whole-more n w k p h = go (leb ((n - w) / w) k) refl
   where
-    go : numberIn (cutIn g fs (at + widthOf (f .coding)) (n - widthOf (f .coding))) ≡ pastEnd → (b : Bool)
-        → numberIn (cond b (cutOff at (f .name)) (cutIn g fs (at + widthOf (f .coding)) (n - widthOf (f .coding)))) ≡ pastEnd
-    go ih true = refl
-    go ih false = ih
+    q : n / w ≡ (n - w) / w + 1
+    q = div-eq-sub-div p h
+
+    more : (j : ℕ) → (j + 1) * w ≡ w + j * w
+    more j = omega (arith, add-mul j 1 w)
+
+    go : (b : Bool) → leb ((n - w) / w) k ≡ b → wholeFields n w (suc k) ≡ w + cond b ((n - w) / w) k * w
+    go true e = rw (q, le-leb ((n - w) / w + 1) (suc k) (omega (arith, leb-true ((n - w) / w) k e))) (more ((n - w) / w))
+    go false e =
+        let s : suc k ≡ k + 1 = omega arith in
+        rw (q, lt-leb ((n - w) / w + 1) (suc k) (omega (arith, leb-false ((n - w) / w) k e)), s) (more k)
+
+-- what is told of a fault
+abbrev told : {N : Type 0} → Fault N → Step
+told f = refusedStep (numberIn f) (offsetIn f)
+
+-- of the field that is cut off, where n bits are there
+cut-told : {N : Type 0} (w : ℕ) → 0 < w → (f : Field N) (fs : List (Field N)) → OneWidth w f fs → (at n : ℕ) → told (cutIn f fs at n) ≡ refusedStep pastEnd (at + wholeFields n w (length fs))
+unfolding cutIn
+cut-told w p f [] h at n = ap (refusedStep pastEnd) (sym (none (leb (n / w) 0) refl))
+  where
+    none : (b : Bool) → leb (n / w) 0 ≡ b → at + cond b (n / w) 0 * w ≡ at
+    none true e =
+        let z : n / w ≡ 0 = omega (arith, leb-true (n / w) 0 e) in
+        rw (z, zero-mul w, add-zero at)
+    none false e = rw (zero-mul w, add-zero at)
+cut-told {N} w p f (g ∷ fs) h at n = rw (h .0) (go (cut-told w p g fs (h .1) (at + w) (n - w)) (ltb n w) refl)
+  where
+    go : told (cutIn g fs (at + w) (n - w)) ≡ refusedStep pastEnd (at + w + wholeFields (n - w) w (length fs)) → (b : Bool) → ltb n w ≡ b
+        → told (cond b (cutOff at (f .name)) (cutIn g fs (at + w) (n - w))) ≡ refusedStep pastEnd (at + wholeFields n w (suc (length fs)))
+    go ih true e =
+        let z : n / w ≡ 0 = div-eq-of-lt (ltb-true n w e) in
+        let t : at + wholeFields n w (suc (length fs)) ≡ at = rw (z, le-leb 0 (suc (length fs)) (omega arith), zero-mul w, add-zero at) in
+        ap (refusedStep pastEnd) (sym t)
+    go ih false e =
+        let m = one-whole-more n w (length fs) p (ltb-false n w e) in
+        ih ∙ ap (refusedStep pastEnd) (omega (arith, m))
 
 -- 16 bits hold a signed field of at most 16 bits
 pub signed-fits : (n v : ℕ) → 0 < n → n ≤ 16 → v < 2 ^ n → SFits w16 (signedOf n v)
@@ -104,14 +144,14 @@ module _ (l : ℕ) (s : List ℕ) (at : ℕ) where
       ≡ stepOf (mapped (blockOf l) (read (row (fieldsOf l)) at (drop at (bitsOf s))))
   fields-is k h = rw (row-there (fieldsOf l) at (drop at (bitsOf s)) (omega (arith, length-rest s at)), values-at k (codings l) s at h)
 
-  pub fields-refused : 0 < totalWidth (codings l) → 8 * length s < at + totalWidth (codings l)
-      → Refused (refusal pastEnd) ≡ stepOf (mapped (blockOf l) (read (row (fieldsOf l)) at (drop at (bitsOf s))))
-  unfolding totalWidth
-  fields-refused p h = go (fieldsOf l) (omega (arith, length-rest s at))
-    where
-      go : (fs : List (Field Name)) → length (drop at (bitsOf s)) < totalWidth (map codingOf fs) → Refused (refusal pastEnd) ≡ stepOf (mapped (blockOf l) (read (row fs) at (drop at (bitsOf s))))
-      go [] k = absurd (omega arith)
-      go (f ∷ fs) k = rw (row-cut f fs at (drop at (bitsOf s)) k, cut-number f fs at (length (drop at (bitsOf s))))
+  -- n bits are there, which are not all
+  pub fields-refused : (w : ℕ) → 0 < w → (f : Field Name) (fs : List (Field Name)) → fieldsOf l ≡ f ∷ fs → OneWidth w f fs → at ≤ 8 * length s → 8 * length s < at + totalWidth (codings l)
+      → refusedStep pastEnd (at + wholeFields (8 * length s - at) w (length fs)) ≡ stepOf (mapped (blockOf l) (read (row (fieldsOf l)) at (drop at (bitsOf s))))
+  fields-refused w p f fs e o h k =
+      let r = length-rest s at in
+      let short : length (drop at (bitsOf s)) < totalWidth (map codingOf (f ∷ fs)) = omega (arith, r, ap (λ (gs : List (Field Name)). totalWidth (map codingOf gs)) e) in
+      (sym (cut-told w p f fs o at (8 * length s - at)) ∙ ap (λ (n : ℕ). told (cutIn f fs at n)) (sym r))
+      ∙ sym (ap (λ (gs : List (Field Name)). stepOf (mapped (blockOf l) (read (row gs) at (drop at (bitsOf s))))) e ∙ ap (λ (x : Out Name (List ℤ)). stepOf (mapped (blockOf l) x)) (row-cut f fs at (drop at (bitsOf s)) short))
 
 -- a level that is not known has no fields
 pub fields-none : (l at : ℕ) (s : List Bool) → (l ≡ 1 → ⊥) → (l ≡ 2 → ⊥) → (l ≡ 5 → ⊥) → Is Nothing 0 ≡ stepOf (mapped (blockOf l) (read (row (fieldsOf l)) at s))
@@ -128,6 +168,6 @@ pub step-ok : (o : Out Name Block) (b : Block) (n : ℕ) → Is b n ≡ stepOf o
 step-ok (ok a m) b n e = cc
 step-ok (no f) b n e = let z : _≡_ {A = ℕ} 0 1 = cc in absurd (omega arith)
 
-pub step-no : (o : Out Name Block) (r : Refusal) → Refused r ≡ stepOf o → (f : Fault Name) × (o ≡ no f) × (r ≡ refusal (numberIn f))
-step-no (ok a m) r e = let z : _≡_ {A = ℕ} 0 1 = cc in absurd (omega arith)
-step-no (no f) r e = (f, refl, cc)
+pub step-no : (o : Out Name Block) (k at : ℕ) → Refused k at ≡ stepOf o → Told o k at
+step-no (ok a m) k at e = let z : _≡_ {A = ℕ} 0 1 = cc in absurd (omega arith)
+step-no (no f) k at e = (f, refl, cc, cc)

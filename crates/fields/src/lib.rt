@@ -1,27 +1,41 @@
 // Reads the fields of a level at a bit position.
 use record::Block;
-use refusals::Refusal;
 ghost use mathlib.Core.Path.{_≡_};
-ghost use Prim.Native.Nat.{_/_, _%_, _<_, _≤_, _^_};
-ghost use lib.ListN.{drop};
+ghost use mathlib.Core.Bool.{cond};
+ghost use Prim.Native.Nat.{_+_, _-_, _*_, _/_, _%_, _<_, _≤_, _^_};
+ghost use lib.Dec.{leb};
+ghost use lib.ListN.{length, drop};
+ghost use Rattle.refusals.specs.Refusals.{pastEnd};
 ghost use Rattle.tree.specs.Bits.{bitsOf};
 ghost use Rattle.tree.specs.Reading.{mapped};
 ghost use Rattle.tree.specs.Syntax.{row, read};
 ghost use Rattle.record.specs.Level.{fieldsOf};
 ghost use Rattle.syntax.specs.Data.{blockOf};
-ghost use Rattle.fields.specs.Step.{stepOf, refusedStep};
+ghost use Rattle.fields.specs.Step.{stepOf, refusedStep, wholeFields};
 
 // A block that was read and how many bits it took, or why there is none.
 pub enum Step {
     Is { block: Block, width: usize },
-    Refused { why: Refusal },
+    Refused { number: u8, offset: u32 },
 }
 
-pub fn refuse(number: u8) -> Step
-    ensures { λ r. ⌜ r ≡ refusedStep number ⌝ }
+// The smaller of two numbers.
+fn smaller(a: usize, b: usize) -> usize
+    ensures { λ r. ⌜ (r ≡ cond (leb a b) a b) × (r ≤ b) ⌝ }
 {
+    if a <= b { a } else { b }
+}
+
+// The first field that is cut off, of `last` fields of one width in a row and one behind them: the slice ends within them, and where it begins
+// is told.
+fn refuse_cut(s: &[u8], at: usize, width: usize, last: usize) -> Step
+    requires { ⌜ (at < 2 ^ 31) × (at ≤ 8 * length (now s)) × (8 * length (now s) < at + 85) × (0 < width) × (width ≤ 13) × (last ≤ 6) ⌝ }
+    ensures { λ r. ⌜ r ≡ refusedStep pastEnd (at + wholeFields (8 * length (now (s .entry)) - at) width last) ⌝ }
+{
+    let whole = smaller((8 * s.len() - at) / width, last);
     Step::Refused {
-        why: Refusal { number },
+        number: refusals::PAST_END,
+        offset: (at + whole * width) as u32,
     }
 }
 
@@ -36,11 +50,11 @@ fn field_in(word: u64, behind: usize, n: usize) -> u16
 // The fields of level 1, out of one word. Here and in the next two the slice's length is looked at once: n bits from `at` on lie in its
 // first (at + n + 7) / 8 bytes.
 fn fields1(s: &[u8], at: usize) -> Step
-    requires { ⌜ at < 2 ^ 60 ⌝ }
+    requires { ⌜ (at < 2 ^ 31) × (at ≤ 8 * length (now s)) ⌝ }
     ensures { λ r. ⌜ r ≡ stepOf (mapped (blockOf 1) (read (row (fieldsOf 1)) at (drop at (bitsOf (now (s .entry)))))) ⌝ }
 {
     if s.len() < (at + 43) / 8 {
-        return refuse(Refusal::PAST_END);
+        return refuse_cut(s, at, 12, 2);
     }
     let word = window::word(s, at, 36);
     let min_pq = field_in(word, 24, 12);
@@ -58,11 +72,11 @@ fn fields1(s: &[u8], at: usize) -> Step
 
 // The fields of level 2: four out of one word, three out of the next.
 fn fields2(s: &[u8], at: usize) -> Step
-    requires { ⌜ at < 2 ^ 60 ⌝ }
+    requires { ⌜ (at < 2 ^ 31) × (at ≤ 8 * length (now s)) ⌝ }
     ensures { λ r. ⌜ r ≡ stepOf (mapped (blockOf 2) (read (row (fieldsOf 2)) at (drop at (bitsOf (now (s .entry)))))) ⌝ }
 {
     if s.len() < (at + 92) / 8 {
-        return refuse(Refusal::PAST_END);
+        return refuse_cut(s, at, 12, 6);
     }
     let word = window::word(s, at, 48);
     let target_max_pq = field_in(word, 36, 12);
@@ -89,11 +103,11 @@ fn fields2(s: &[u8], at: usize) -> Step
 
 // The fields of level 5.
 fn fields5(s: &[u8], at: usize) -> Step
-    requires { ⌜ at < 2 ^ 60 ⌝ }
+    requires { ⌜ (at < 2 ^ 31) × (at ≤ 8 * length (now s)) ⌝ }
     ensures { λ r. ⌜ r ≡ stepOf (mapped (blockOf 5) (read (row (fieldsOf 5)) at (drop at (bitsOf (now (s .entry)))))) ⌝ }
 {
     if s.len() < (at + 59) / 8 {
-        return refuse(Refusal::PAST_END);
+        return refuse_cut(s, at, 13, 3);
     }
     let word = window::word(s, at, 52);
     let left_offset = field_in(word, 39, 13);
@@ -113,7 +127,7 @@ fn fields5(s: &[u8], at: usize) -> Step
 
 // The fields of a level; a level that is not known has none.
 pub fn fields_of(s: &[u8], at: usize, level: u8) -> Step
-    requires { ⌜ at < 2 ^ 60 ⌝ }
+    requires { ⌜ (at < 2 ^ 31) × (at ≤ 8 * length (now s)) ⌝ }
     ensures { λ r. ⌜ r ≡ stepOf (mapped (blockOf level) (read (row (fieldsOf level)) at (drop at (bitsOf (now (s .entry)))))) ⌝ }
 {
     if level == 1 {

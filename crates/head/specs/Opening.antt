@@ -3,8 +3,8 @@ use Prim.Native.Nat.{ℕ, _+_}
 use mathlib.Core.Bool.{false, cond}
 use lib.Dec.{eqb}
 use lib.IntN.{pos}
-use Rattle.refusals.specs.Refusals.{refusal, wrongVersion}
-use Rattle.tree.specs.Reading.{numberIn, Out, ok, no}
+use Rattle.refusals.specs.Refusals.{wrongVersion}
+use Rattle.tree.specs.Reading.{numberIn, offsetIn, Out, ok, no}
 use Rattle.tree.specs.Coding.{unsigned, variable, fixed, natural}
 use Rattle.tree.specs.Syntax.{Syntax, done, any, ranged, _>>=_, _>>_}
 use Rattle.record.specs.Name.{Name, «app_version», «metadata_refresh_flag»}
@@ -15,21 +15,21 @@ use Rattle.head.specs.declared.Opening.the-variants.{Is, Refused}
 -- what stands before the blocks, or why there is none
 abbrev pub openingOf : Out Name Head → Opening
 openingOf (ok h n) = Is (h .refresh) (h .count) n
-openingOf (no f) = Refused (refusal (numberIn f))
+openingOf (no f) = Refused (numberIn f) (offsetIn f)
 
 -- the same, behind n bits that are taken already
 abbrev pub openingBehind : ℕ → Opening → Opening
 openingBehind n (Is flag count width) = Is flag count (n + width)
-openingBehind n (Refused r) = Refused r
+openingBehind n (Refused k at) = Refused k at
 
 -- how many bits it took
 abbrev pub openingTook : Opening → ℕ
 openingTook (Is flag count width) = width
-openingTook (Refused r) = 0
+openingTook (Refused k at) = 0
 
--- a refusal, by its number
-abbrev pub refusedOpening : ℕ → Opening
-refusedOpening n = Refused (refusal n)
+-- a refusal, by its number and where it is found
+abbrev pub refusedOpening : ℕ → ℕ → Opening
+refusedOpening n at = Refused n at
 
 -- the table `head` from metadata_refresh_flag on, and from app_version on
 unfoldable pub fromFlag : Syntax Name Head

@@ -1,6 +1,5 @@
 // Reads what stands before the blocks of ST2094-10_data: table E.1.1 of A/341 as far as num_ext_blocks, and the zero bits behind it.
 use bits::Number;
-use refusals::Refusal;
 ghost use mathlib.Core.Path.{_≡_};
 ghost use mathlib.Core.Bool.{cond};
 ghost use Prim.Native.Nat.{_+_, _<_, _≤_, _^_};
@@ -27,15 +26,18 @@ pub enum Opening {
         width: usize,
     },
     Refused {
-        why: Refusal,
+        number: u8,
+        offset: u32,
     },
 }
 
-fn refuse(number: u8) -> Opening
-    ensures { λ r. ⌜ r ≡ refusedOpening number ⌝ }
+fn refuse(number: u8, at: usize) -> Opening
+    requires { ⌜ at < 2 ^ 32 ⌝ }
+    ensures { λ r. ⌜ r ≡ refusedOpening number at ⌝ }
 {
     Opening::Refused {
-        why: Refusal { number },
+        number,
+        offset: at as u32,
     }
 }
 
@@ -45,7 +47,7 @@ fn behind(n: usize, rest: Opening) -> Opening
     ensures { λ r. ⌜ r ≡ openingBehind n rest ⌝ }
 {
     match rest {
-        Opening::Refused { why } => Opening::Refused { why },
+        Opening::Refused { number, offset } => Opening::Refused { number, offset },
         Opening::Is {
             refresh,
             count,
@@ -60,10 +62,11 @@ fn behind(n: usize, rest: Opening) -> Opening
 
 // num_ext_blocks, which is checked when its code is complete.
 fn read_count(s: &[u8], at: usize) -> Opening
+    requires { ⌜ at < 2 ^ 30 ⌝ }
     ensures { λ r. ⌜ r ≡ openingOf (read blockCount at (drop at (bitsOf (now (s .entry))))) ⌝ }
 {
     match bits::read_ue(s, at, bits::MOST_ZEROS) {
-        Number::Refused { why } => Opening::Refused { why },
+        Number::Refused { number, offset } => Opening::Refused { number, offset },
         Number::Is { value: n, width } => {
             if n <= MOST_ANNOUNCED {
                 Opening::Is {
@@ -72,7 +75,7 @@ fn read_count(s: &[u8], at: usize) -> Opening
                     width,
                 }
             } else {
-                refuse(Refusal::TOO_MANY_BLOCKS)
+                refuse(refusals::TOO_MANY_BLOCKS, at)
             }
         }
     }
@@ -84,7 +87,7 @@ fn read_flag(s: &[u8], at: usize) -> Opening
     ensures { λ r. ⌜ r ≡ openingOf (read fromFlag at (drop at (bitsOf (now (s .entry))))) ⌝ }
 {
     match bits::read_u(s, at, 1) {
-        Number::Refused { why } => Opening::Refused { why },
+        Number::Refused { number, offset } => Opening::Refused { number, offset },
         Number::Is {
             value: flag,
             width: n,
@@ -107,13 +110,13 @@ fn read_version(s: &[u8], at: usize) -> Opening
     ensures { λ r. ⌜ r ≡ openingOf (read fromVersion at (drop at (bitsOf (now (s .entry))))) ⌝ }
 {
     match bits::read_ue(s, at, bits::MOST_ZEROS) {
-        Number::Refused { why } => Opening::Refused { why },
+        Number::Refused { number, offset } => Opening::Refused { number, offset },
         Number::Is {
             value: version,
             width: n,
         } => {
             if version != VERSION {
-                return refuse(Refusal::WRONG_VERSION);
+                return refuse(refusals::WRONG_VERSION, at);
             }
             behind(n, read_flag(s, at + n))
         }
@@ -125,13 +128,13 @@ fn read_identifier(s: &[u8]) -> Opening
     ensures { λ r. ⌜ r ≡ openingOf (read head 0 (bitsOf (now (s .entry)))) ⌝ }
 {
     match bits::read_ue(s, 0, bits::MOST_ZEROS) {
-        Number::Refused { why } => Opening::Refused { why },
+        Number::Refused { number, offset } => Opening::Refused { number, offset },
         Number::Is {
             value: identifier,
             width: n,
         } => {
             if identifier != IDENTIFIER {
-                return refuse(Refusal::WRONG_IDENTIFIER);
+                return refuse(refusals::WRONG_IDENTIFIER, 0);
             }
             behind(n, read_version(s, n))
         }
@@ -151,7 +154,7 @@ fn read_padding(s: &[u8], n: usize, refresh: bool, count: u8) -> Opening
     ensures { λ r. ⌜ r ≡ openingBehind n (openingOf (read (alignedHead (announced refresh count)) n (drop n (bitsOf (now (s .entry)))))) ⌝ }
 {
     match bits::read_zeros(s, n, zeros_behind(count != 0, n)) {
-        Number::Refused { why } => Opening::Refused { why },
+        Number::Refused { number, offset } => Opening::Refused { number, offset },
         Number::Is { width, .. } => Opening::Is {
             refresh,
             count,
@@ -165,7 +168,7 @@ pub fn read_head(s: &[u8]) -> Opening
     ensures { λ r. ⌜ r ≡ openingOf (read opening 0 (bitsOf (now (s .entry)))) ⌝ }
 {
     match read_identifier(s) {
-        Opening::Refused { why } => Opening::Refused { why },
+        Opening::Refused { number, offset } => Opening::Refused { number, offset },
         Opening::Is {
             refresh,
             count,

@@ -9,14 +9,13 @@ use borrow.Author.Tests.{eqb-true, eqb-false, eq-eqb}
 use lib.Dec.{eqb}
 use lib.IntN.{ℤ, pos}
 use lib.ListN.{length, getD, drop}
-use Rattle.refusals.specs.Refusals.{refusal}
 use Rattle.tree.specs.Bits.{bit, bitsOf, Bytes}
 use Rattle.tree.specs.Reading.{Out, ok, no}
 use Rattle.tree.specs.Coding.{natural}
 use Rattle.text.specs.Text.{ascii, Line}
 use Rattle.text.specs.Told.{without, plainKeys}
 use Rattle.text.proofs.Different.{one-text}
-use Rattle.record.specs.Blocks.{blocks}
+use Rattle.record.specs.Blocks.{emptyRecord, blocks}
 use Rattle.record.specs.declared.Block.{Block}
 use Rattle.record.specs.declared.Block.the-variants.{Nothing, Level1, Level2, Level5}
 use Rattle.record.specs.declared.Record.{Record}
@@ -29,7 +28,7 @@ use Rattle.syntax.specs.Data.{blockOf, Data, recordFrom, bareData}
 use Rattle.syntax.proofs.Exact.{accepted-is-a-payload}
 use Rattle.syntax.proofs.Records.{the-record-is-valid}
 use Rattle.reader.specs.declared.Reading.{Reading}
-use Rattle.reader.specs.Reading.{refusedReading, readingOf}
+use Rattle.reader.specs.Reading.{readingOf}
 use Rattle.listing.specs.Listing.{fieldLines, blockLines, blocksLines, acceptedLines, refusedLines, lines, listing}
 
 -- the keys of a listing are plain
@@ -106,7 +105,7 @@ one-record r s p q e =
 -- what the reader gives: a record that is valid, or a refusal beside the empty record and no bits (01, The record)
 pub record Given (q : Reading) : Type 0 where
   pub accepted : q .result ≡ 0 → Proper (q .«record»)
-  pub refused : (q .result ≡ 0 → ⊥) → q ≡ refusedReading (q .result)
+  pub refused : (q .result ≡ 0 → ⊥) → (q .bits ≡ 0) × (q .«record» ≡ emptyRecord)
 
 -- two readings with all that a listing shows in common
 pub record ShownAlike (q p : Reading) : Type 0 where
@@ -121,7 +120,7 @@ accepted-is-given q e p = record { accepted = λ z. p; refused = λ f. absurd (f
 -- an answer is given, if the record of what it accepts is valid
 pub answer-is-given : (o : Out Name Data) → ((d : Data) (n : ℕ) → o ≡ ok d n → Proper (recordFrom d)) → Given (readingOf o)
 answer-is-given (ok d n) h = accepted-is-given (readingOf (ok d n)) refl (h d n refl)
-answer-is-given (no q) h = record { accepted = λ e. record { places = refl; valid-record = empty-is-valid }; refused = λ f. refl }
+answer-is-given (no q) h = record { accepted = λ e. record { places = refl; valid-record = empty-is-valid }; refused = λ f. (refl, refl) }
 
 -- so is every answer to data
 pub data-is-given : (s : List ℕ) → Bytes s → Given (readingOf (bareData (bitsOf s)))
@@ -152,11 +151,12 @@ one-reading q p g h e = go (eqb (q .result) 0) refl
         record { result = r; bits = s .1; «record» = s .0 }
     go false z =
         let f = eqb-false (q .result) 0 z in
-        let x : q ≡ p = g .refused f ∙ rw r (sym (h .refused (λ b. f (r ∙ b)))) in
-        record { result = r; bits = ap (λ (y : Reading). y .bits) x; «record» = ap (λ (y : Reading). y .«record») x }
+        let x = g .refused f in
+        let y = h .refused (λ b. f (r ∙ b)) in
+        record { result = r; bits = x .0 ∙ sym (y .0); «record» = x .1 ∙ sym (y .1) }
 
 -- THE THEOREM. Two readings that the reader gives, accepted or refused, have different listings, unless they differ in nothing but the
--- number of blocks passed over.
+-- number of blocks passed over, or, both refused, in where.
 pub one-listing-one-reading : (q p : Reading) → Given q → Given p → listing q ≡ listing p → ShownAlike q p
 unfolding listing
 one-listing-one-reading q p g h e = one-reading q p g h (one-text (lines q) (lines p) (plain-lines q) (plain-lines p) e)

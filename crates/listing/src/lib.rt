@@ -3,7 +3,6 @@ use output::Written;
 use reader::Reading;
 use record::Block;
 use record::Record;
-use refusals::Refusal;
 ghost use mathlib.Core.Path.{_≡_};
 ghost use mathlib.Core.Bool.{true};
 ghost use mathlib.Core.List.{[], _∷_};
@@ -197,7 +196,7 @@ pub fn write_listing(q: Reading, out: &mut [u8]) -> Written
         let n = put_listing(&mut page, q);
         if out.len() < n {
             return Written {
-                result: Refusal::UNFIT_OUTPUT,
+                result: refusals::UNFIT_OUTPUT,
                 bytes: 0,
             };
         }
@@ -208,7 +207,7 @@ pub fn write_listing(q: Reading, out: &mut [u8]) -> Written
         }
     } else {
         Written {
-            result: Refusal::NOT_VALID,
+            result: refusals::NOT_VALID,
             bytes: 0,
         }
     }

@@ -14,7 +14,7 @@ use lib.Seq.{drop-cons, drop-drop}
 use Rattle.refusals.specs.Refusals.{brokenMessages, noneOfOurs}
 use Rattle.tree.proofs.Truth.{clash}
 use Rattle.syntax.specs.Wrapper.{wrapperBytes}
-use Rattle.reader.specs.Reading.{refusedReading}
+use Rattle.reader.specs.Reading.{unplaced}
 use Rattle.wrapper.specs.Wrapper.{beginsWith, readWrapped}
 use Rattle.rbsp.specs.Message.{Message, message, «ff_byte», Chain, counts, past, further, chain, Frame, frame, noFrame, sized, typed, frameOf, isEnd, ahead, messagesWithin, messagesIn, registered, isOurs, firstOfOurs}
 use Rattle.messages.specs.Answer.{numberAt, framedAt, sizedAt, contentAt, firstIn, orOurs, foundFirst, FirstWithin, FoundWithin, contentIn, oursAmong, standsAt, readFirst, readOurs}
@@ -371,16 +371,16 @@ pub found-within : (s : List ℕ) (x : Found) (start size : ℕ) → x ≡ found
 found-within s x start size e w = rw e at w
 
 -- the bytes are no messages
-pub read-broken : (x : Option (List Message)) → none ≡ oursAmong x → refusedReading brokenMessages ≡ readOurs x
+pub read-broken : (x : Option (List Message)) → none ≡ oursAmong x → unplaced brokenMessages ≡ readOurs x
 read-broken none e = refl
 read-broken (some ms) e = let z : _≡_ {A = ℕ} 0 1 = cc in clash z
 
 -- none of them is ours
-pub read-nothing : (x : Option (List Message)) → some none ≡ oursAmong x → refusedReading noneOfOurs ≡ readOurs x
+pub read-nothing : (x : Option (List Message)) → some none ≡ oursAmong x → unplaced noneOfOurs ≡ readOurs x
 read-nothing none e = let z : _≡_ {A = ℕ} 0 1 = cc in clash z
 read-nothing (some ms) e = go (firstOfOurs ms) e
   where
-    go : (o : Option Message) → some none ≡ some (contentIn o) → refusedReading noneOfOurs ≡ readFirst o
+    go : (o : Option Message) → some none ≡ some (contentIn o) → unplaced noneOfOurs ≡ readFirst o
     go none q = refl
     go (some m) q = let z : _≡_ {A = ℕ} 0 1 = cc in clash z
 

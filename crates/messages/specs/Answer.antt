@@ -11,7 +11,7 @@ use Rattle.output.specs.Output.{writtenAs, bufferAs}
 use Rattle.record.specs.declared.Record.{Record}
 use Rattle.valid.specs.Valid.{valid}
 use Rattle.reader.specs.declared.Reading.{Reading}
-use Rattle.reader.specs.Reading.{refusedReading}
+use Rattle.reader.specs.Reading.{unplaced}
 use Rattle.wrapper.specs.Wrapper.{readWrapped}
 use Rattle.rbsp.specs.Message.{Message, Chain, counts, past, Frame, frame, noFrame, message, messagesIn, isOurs, firstOfOurs, ourMessage, «sei_rbsp»}
 use Rattle.messages.specs.declared.Number.{Number}
@@ -76,13 +76,13 @@ standsAt s found.Broken = none
 standsAt s found.Nothing = some none
 standsAt s (found.At start size) = some (some (contentAt s start size))
 
--- 02, a: our first message goes to the reader of wrapped data, whose answer stands
+-- 02, a: our first message goes to the reader of wrapped data, whose answer stands; 02, e: a refusal of the unit itself has no place
 abbrev pub readFirst : Option Message → Reading
-readFirst none = refusedReading noneOfOurs
+readFirst none = unplaced noneOfOurs
 readFirst (some m) = readWrapped (m .content)
 
 abbrev pub readOurs : Option (List Message) → Reading
-readOurs none = refusedReading brokenMessages
+readOurs none = unplaced brokenMessages
 readOurs (some ms) = readFirst (firstOfOurs ms)
 
 -- read_messages

@@ -2,7 +2,6 @@
 use output::Written;
 use reader::Reading;
 use record::Record;
-use refusals::Refusal;
 ghost use mathlib.Core.Path.{_≡_};
 ghost use Prim.Native.Nat.{_+_, _≤_, _<_, _^_};
 ghost use lib.ListN.{length, drop};
@@ -178,12 +177,8 @@ pub fn read_messages(s: &[u8]) -> Reading
     ensures { λ r. ⌜ r ≡ readMessages (now (s .entry)) ⌝ }
 {
     match find_ours(s) {
-        Found::Broken => wrapper::refused(Refusal {
-            number: Refusal::BROKEN_MESSAGES,
-        }),
-        Found::Nothing => wrapper::refused(Refusal {
-            number: Refusal::NONE_OF_OURS,
-        }),
+        Found::Broken => reader::unplaced(refusals::BROKEN_MESSAGES),
+        Found::Nothing => reader::unplaced(refusals::NONE_OF_OURS),
         Found::At { start, size } => {
             let end = start + size;
             wrapper::read_wrapped(&s[start..end])

@@ -1,20 +1,21 @@
--- What is kept of the blocks that were met, block by block; and that it decides whether one more may follow.
+-- What is kept of the blocks that were met, block by block; that it decides whether one more may follow; and which repeat one is that may not.
 use Prim.Native.Nat.{ℕ, zero, suc, _+_, _-_, _<_, _≤_}
 use mathlib.Core.Path.{_≡_, refl, ap}
 use mathlib.Core.List.{List, [], _∷_, _++_}
-use mathlib.Core.Bool.{Bool, true, false, not, _&&_, _||_, and-true}
+use mathlib.Core.Bool.{Bool, true, false, cond, not, _&&_, _||_, and-true}
 use native.Mathlib.Nat.{add-zero}
 use native.Mathlib.Numerals.{unary-clauses}
 use native.Mathlib.Omega.{arith}
 use borrow.Author.Tests.{ltb-true, lt-ltb, le-ltb, ne-eqb}
 use lib.Dec.{ltb, eqb}
 use lib.ListN.{length, take, set, replicate, length-append, length-replicate}
+use Rattle.refusals.specs.Refusals.{repeatedTarget, secondLevel1, secondLevel5, seventeenthLevel2}
 use Rattle.tree.specs.Coding.{holdAll}
 use Rattle.record.specs.declared.Block.{Block}
 use Rattle.record.specs.declared.Block.the-variants.{Nothing, Level1, Level2, Level5}
 use Rattle.record.specs.Blocks.{inRange}
 use Rattle.record.proofs.Laws.{and-left}
-use Rattle.valid.specs.Valid.{many, targets, among, mayFollow}
+use Rattle.valid.specs.Valid.{many, targets, among, mayFollow, repeatNumber}
 use Rattle.valid.proofs.Laws.{many-more}
 use Rattle.met.specs.declared.Met.{Met}
 use Rattle.met.specs.Met.{mostTargets, entries, noTarget, targetOf, metOf, targetsMet}
@@ -114,3 +115,25 @@ met-more bs Nothing = simp (many-more, add-zero)
 met-more bs (Level1 min max avg) = simp (many-more, add-zero, lt-ltb 0 (many 1 bs + 1) (omega arith))
 met-more bs (Level2 t s o p c g m) = simp (many-more, add-zero)
 met-more bs (Level5 l r t b) = simp (many-more, add-zero, lt-ltb 0 (many 5 bs + 1) (omega arith))
+
+-- ---- which repeat
+
+-- the number that the code gives, over what is kept
+abbrev pub repeats : Met → Block → ℕ
+repeats m Nothing = 0
+repeats m (Level1 min max avg) = secondLevel1
+repeats m (Level2 t s o p c g w) = cond (ltb (m .twos) mostTargets) repeatedTarget seventeenthLevel2
+repeats m (Level5 l r t b) = secondLevel5
+
+-- a test that does not pass, where a second one does
+pub not-first : (p : Bool) → p && true ≡ false → p ≡ false
+not-first true h = h
+not-first false h = refl
+
+-- it is that of a block that may not follow those that were met
+pub met-repeats : (bs : List Block) (b : Block) → mayFollow bs b ≡ false → repeats (metOf bs) b ≡ repeatNumber bs b
+unfolding mayFollow
+met-repeats bs Nothing h = rw (le-ltb (many 0 bs) 0 (omega arith))
+met-repeats bs (Level1 min max avg) h = rw (not-first (ltb (many 1 bs) 1) h)
+met-repeats bs (Level2 t s o p c g m) h = refl
+met-repeats bs (Level5 l r t b) h = rw (not-first (ltb (many 5 bs) 1) h)

@@ -2,12 +2,14 @@
 use Prim.Native.Nat.{ℕ}
 use mathlib.Core.Path.{_≡_, sym, _∙_}
 use mathlib.Core.List.{List}
+use mathlib.Core.Bool.{false}
 use contract.Lifetimes.{Lfts}
 use denote.Ref.{now}
 use denote.Triple.Clauses.{AtExit}
 use borrow.Fn.Kinds.{PK, RK, In, Out, Dens, resT, endedOf}
 use Rattle.bits.proofs.OneAnswer.{OneResult}
 use Rattle.record.specs.declared.Block.{Block}
+use Rattle.valid.specs.Valid.{mayFollow}
 use Rattle.met.specs.Met.{metOf, targetsMet}
 use Rattle.met.proofs.Met.nothing.Kinds as nothing
 use Rattle.met.proofs.Met.nothing.Reads as nothing-contract
@@ -15,6 +17,8 @@ use Rattle.met.proofs.target_of.Kinds as target-of
 use Rattle.met.proofs.target_of.Reads as target-of-contract
 use Rattle.met.proofs.admits.Kinds as admits
 use Rattle.met.proofs.admits.Reads as admits-contract
+use Rattle.met.proofs.repeat_of.Kinds as repeat-of
+use Rattle.met.proofs.repeat_of.Reads as repeat-of-contract
 use Rattle.met.proofs.including.Kinds as including
 use Rattle.met.proofs.including.Reads as including-contract
 
@@ -35,3 +39,6 @@ admits-one before κs a x y s t h e f = e before (h .0) (h .1) ∙ sym (f before
 
 pub including-one : (before : List Block) → OneResultWhere including.ps including.r (λ κs a. a .0 ≡ metOf before) including-contract.Post
 including-one before κs a x y s t h e f = e before h ∙ sym (f before h)
+
+pub repeat-of-one : (before : List Block) → OneResultWhere repeat-of.ps repeat-of.r (λ κs a. (a .0 ≡ metOf before) × (mayFollow before (a .1 .0) ≡ false)) repeat-of-contract.Post
+repeat-of-one before κs a x y s t h e f = e before (h .0) (h .1) ∙ sym (f before (h .0) (h .1))

@@ -1,13 +1,13 @@
 // What the known blocks that were read leave open: whether one more may follow them, without a look at the record that holds them.
 use record::Block;
 ghost use mathlib.Core.Path.{_≡_};
-ghost use mathlib.Core.Bool.{true};
+ghost use mathlib.Core.Bool.{true, false};
 ghost use mathlib.Core.List.{List, [], _∷_, _++_};
 ghost use Prim.Native.Nat.{_≤_};
 ghost use lib.ListN.{length, take};
 ghost use Rattle.record.specs.declared.Block.{Block};
 ghost use Rattle.record.specs.Blocks.{inRange};
-ghost use Rattle.valid.specs.Valid.{among, mayFollow};
+ghost use Rattle.valid.specs.Valid.{among, mayFollow, repeatNumber};
 ghost use Rattle.met.specs.Met.{mostTargets, targetOf, metOf, targetsMet};
 
 // How many level 2 blocks there may be.
@@ -77,6 +77,25 @@ pub fn admits(m: Met, targets: &[u16; 17], b: Block) -> bool
             ..
         } => (m.twos < TARGETS as u8) & !has_target(targets, t),
         Block::Level5 { .. } => !m.five,
+    }
+}
+
+// 02, e: which repeat b is, where it may not stand behind the blocks that were met: one too many of its level, or else a target_max_PQ
+// already met.
+pub fn repeat_of(m: Met, b: Block) -> u8
+    ensures { λ r. ⌜ ((before : List Block) → m ≡ metOf before → mayFollow before b ≡ false → r ≡ repeatNumber before b) ⌝ }
+{
+    match b {
+        Block::Nothing => 0,
+        Block::Level1 { .. } => refusals::SECOND_LEVEL_1,
+        Block::Level2 { .. } => {
+            if m.twos < TARGETS as u8 {
+                refusals::REPEATED_TARGET
+            } else {
+                refusals::SEVENTEENTH_LEVEL_2
+            }
+        }
+        Block::Level5 { .. } => refusals::SECOND_LEVEL_5,
     }
 }
 

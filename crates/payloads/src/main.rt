@@ -1,9 +1,23 @@
 // Reads every payload that document 01 gives, the ms_weight examples among them, bare and behind the wrapper, and prints for each its
-// name and its listing. Two of them, 58 50 and 5A 81 80, have another outcome since request b, and 00 00 since request d, whose 00 00 00 00
+// name and its listing, and of a refused one where it is refused. Two of them, 58 50 and 5A 81 80, have another outcome since request b, and 00 00 since request d, whose 00 00 00 00
 // stands beside it.
 use reader::Reading;
 
 const OUT: i32 = libc::STDOUT_FILENO;
+
+// Where a payload is refused, if it is: at which bit of the data, or at which byte of the wrapper.
+fn place(result: u8, offset: u32, in_wrapper: bool) {
+    if result == 0 {
+        return;
+    }
+    if in_wrapper {
+        io::write_all(OUT, b"byte=");
+    } else {
+        io::write_all(OUT, b"bit=");
+    }
+    io::print_decimal(OUT, offset as u64);
+    io::write_all(OUT, b"\n");
+}
 
 fn outcome(name: &[u8], form: &[u8], reading: Reading) {
     io::write_all(OUT, name);
@@ -11,6 +25,7 @@ fn outcome(name: &[u8], form: &[u8], reading: Reading) {
     let mut text = [0u8; listing::BYTES];
     let listed = listing::write_listing(reading, &mut text);
     io::write_all(OUT, &text[..listed.bytes]);
+    place(reading.result, reading.offset, reading.in_wrapper);
 }
 
 fn wrapped(name: &[u8], input: &[u8]) {

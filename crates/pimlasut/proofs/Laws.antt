@@ -20,7 +20,7 @@ use Rattle.syntax.specs.Element.{payload}
 use Rattle.syntax.specs.Wrapper.{wrappedPayload}
 use Rattle.syntax.proofs.Largest.{no-payload-is-longer, largest-length}
 use Rattle.reader.specs.declared.Reading.{Reading}
-use Rattle.reader.specs.Reading.{refusedReading}
+use Rattle.reader.specs.Reading.{unplaced}
 use Rattle.messages.proofs.Writing.{wrapped-length}
 use Rattle.sei.specs.SeiUnit.{unitBytes}
 use Rattle.sei.proofs.Functions.{most-unit-bytes}
@@ -95,17 +95,17 @@ module _ (row : List ℤ) (old : List ℕ) (expected : Reading) where
   sized = isRecord row && isFacts old
 
   -- one of the two rows has not its length: 13, and the facts are zeros or stay as they were
-  pub unfit-reading : {facts : List ℕ} → sized ≡ false → facts ≡ factsAfter (refusedReading unfitOutput) old
+  pub unfit-reading : {facts : List ℕ} → sized ≡ false → facts ≡ factsAfter (unplaced unfitOutput) old
       → (unfitOutput ≡ answerInto row old expected .result) × ((row ≡ after unfitOutput (flat (expected .«record»)) row) × (facts ≡ factsAfter (answerInto row old expected) old))
   unfit-reading h e =
-      let q : refusedReading unfitOutput ≡ answerInto row old expected = sym (ap (λ (t : Bool). cond t expected (refusedReading unfitOutput)) h) in
+      let q : unplaced unfitOutput ≡ answerInto row old expected = sym (ap (λ (t : Bool). cond t expected (unplaced unfitOutput)) h) in
       (ap (λ (x : Reading). x .result) q, (refl, e ∙ ap (λ (x : Reading). factsAfter x old) q))
 
   -- both have: a reading, as it is given
   pub given-reading : {row′ : List ℤ} {facts : List ℕ} {n : ℕ} {q : Reading} → (isRecord row ≡ true) × (isFacts old ≡ true) → q ≡ expected → n ≡ q .result → row′ ≡ after n (flat (q .«record»)) row → facts ≡ factsOf q
       → (n ≡ answerInto row old expected .result) × ((row′ ≡ after n (flat (expected .«record»)) row) × (facts ≡ factsAfter (answerInto row old expected) old))
   given-reading {n = n} (t, u) e f g h =
-      let p : expected ≡ answerInto row old expected = sym (ap (λ (b : Bool). cond b expected (refusedReading unfitOutput)) (and-both (isRecord row) (isFacts old) t u)) in
+      let p : expected ≡ answerInto row old expected = sym (ap (λ (b : Bool). cond b expected (unplaced unfitOutput)) (and-both (isRecord row) (isFacts old) t u)) in
       let there : factsOf (answerInto row old expected) ≡ factsAfter (answerInto row old expected) old = sym (ap (λ (b : Bool). cond b (factsOf (answerInto row old expected)) old) u) in (
         f ∙ ap (λ (q : Reading). q .result) (e ∙ p),
         (g ∙ ap (λ (q : Reading). after n (flat (q .«record»)) row) e, h ∙ ap factsOf (e ∙ p) ∙ there),

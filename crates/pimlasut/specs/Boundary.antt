@@ -7,8 +7,9 @@ use lib.Dec.{eqb}
 use lib.IntN.{ℤ}
 use lib.ListN.{length}
 use Rattle.refusals.specs.Refusals.{unfitOutput}
+use Rattle.tree.specs.Bits.{bit}
 use Rattle.reader.specs.declared.Reading.{Reading}
-use Rattle.reader.specs.Reading.{refusedReading}
+use Rattle.reader.specs.Reading.{unplaced}
 use Rattle.plan.specs.Limit.{mostPoints}
 use Rattle.track.specs.Track.{padded, joinOf, joinAnswer, placedPoints, placeAnswer, lookupAnswer}
 use Rattle.track.specs.declared.Point.{Point}
@@ -36,12 +37,13 @@ isTable l = eqb (length l) tableLength
 
 -- ---- reading
 
--- the facts of a reading, as one row: the bits read, and the number of blocks passed over
+-- the facts of a reading, as one row: the bits read, the number of blocks passed over, where a refused element begins, and 1 if that is
+-- counted from the wrapper
 abbrev pub factsOf : Reading → List ℕ
-factsOf q = q .bits ∷ q .skipped ∷ []
+factsOf q = q .bits ∷ q .skipped ∷ q .offset ∷ bit (q .«in_wrapper») ∷ []
 
 abbrev pub factsLength : ℕ
-factsLength = 2
+factsLength = 4
 
 -- the row has as many numbers as the facts
 abbrev pub isFacts : List ℕ → Bool
@@ -49,9 +51,9 @@ isFacts l = eqb (length l) factsLength
 
 -- what is answered for a reading, into a record's row and a row of facts: the reading where both have their length; else 13
 abbrev pub answerInto : List ℤ → List ℕ → Reading → Reading
-answerInto numbers facts q = cond (isRecord numbers && isFacts facts) q (refusedReading unfitOutput)
+answerInto numbers facts q = cond (isRecord numbers && isFacts facts) q (unplaced unfitOutput)
 
--- the row afterwards: the facts, which are zeros beside a refusal; a row of another length stays as it was
+-- the row afterwards: the facts, which beside a refusal say where, and else are zeros; a row of another length stays as it was
 abbrev pub factsAfter : Reading → List ℕ → List ℕ
 factsAfter q old = cond (isFacts old) (factsOf q) old
 

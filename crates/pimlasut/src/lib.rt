@@ -1,11 +1,10 @@
 // The library for C: include/pimlasut.h has the same functions with C's types. A slice crosses as a pointer and a length.
 // A record crosses as 146 numbers and a table of points as 9,408 (crates flat, tables), because no enum crosses.
 // Every function answers the result number; on a refusal every lent array and number stays as it was, but the facts of a reading, which
-// are zeros then.
+// say where then.
 use output::Written;
 use plan::Sought;
 use reader::Reading;
-use refusals::Refusal;
 use shader::Numbers;
 use track::Point;
 ghost use mathlib.Core.Path.{_≡_};
@@ -17,7 +16,7 @@ ghost use lib.ListN.{length};
 ghost use Rattle.tree.specs.Bits.{bit};
 ghost use Rattle.record.specs.Blocks.{mostBlocks};
 ghost use Rattle.refusals.specs.Refusals.{unfitOutput};
-ghost use Rattle.reader.specs.Reading.{refusedReading, readBare};
+ghost use Rattle.reader.specs.Reading.{unplaced, readBare};
 ghost use Rattle.writer.specs.Writing.{writeBare, bareBuffer};
 ghost use Rattle.wrapper.specs.Wrapper.{readWrapped, writeWrapped, wrappedBuffer};
 ghost use Rattle.sei.specs.SeiUnit.{readUnit, writeUnit, unitBuffer};
@@ -29,32 +28,41 @@ ghost use Rattle.tables.specs.Table.{flatTable, tableLength, pointIn};
 ghost use Rattle.pimlasut.specs.Boundary.{ifSized, after, isRecord, isTable, factsLength, factsOf, factsAfter, answerInto, singles, placing, placedTable, looking, joining, joinedTable, Patterns};
 
 // 01, Refusal numbers, as C's functions give them.
-const WRONG_LENGTH: u32 = Refusal::UNFIT_OUTPUT as u32;
+const WRONG_LENGTH: u32 = refusals::UNFIT_OUTPUT as u32;
 
-const NOT_VALID: u32 = Refusal::NOT_VALID as u32;
+const NOT_VALID: u32 = refusals::NOT_VALID as u32;
 
 // How many numbers the shader gets.
 const SINGLES: usize = 7;
 
 // ---- reading
 
-// The facts of a reading cross as one array: the bits read, and the number of blocks passed over.
-const FACTS: usize = 2;
+// The facts of a reading cross as one array: the bits read, the number of blocks passed over, where a refused element begins, and 1 if that
+// is counted from the wrapper.
+const FACTS: usize = 4;
 
-fn put_facts(bits: u32, skipped: u32, facts: &mut [u32])
+fn mark(in_wrapper: bool) -> u32
+    ensures { λ r. ⌜ r ≡ bit in_wrapper ⌝ }
+{
+    if in_wrapper { 1 } else { 0 }
+}
+
+fn put_facts(bits: u32, skipped: u32, offset: u32, mark: u32, facts: &mut [u32])
     requires { ⌜ length (now facts) ≡ factsLength ⌝ }
-    ensures { λ _. ⌜ now (facts .exit) ≡ bits ∷ skipped ∷ [] ⌝ }
+    ensures { λ _. ⌜ now (facts .exit) ≡ bits ∷ skipped ∷ offset ∷ mark ∷ [] ⌝ }
 {
     facts[0] = bits;
     facts[1] = skipped;
+    facts[2] = offset;
+    facts[3] = mark;
 }
 
-// Beside a refusal the facts are zeros; an array of another length stays as it was.
+// Beside a wrong length the facts are zeros; an array of another length stays as it was.
 fn clear_facts(facts: &mut [u32])
-    ensures { λ _. ⌜ now (facts .exit) ≡ factsAfter (refusedReading unfitOutput) (now (facts .entry)) ⌝ }
+    ensures { λ _. ⌜ now (facts .exit) ≡ factsAfter (unplaced unfitOutput) (now (facts .entry)) ⌝ }
 {
     if facts.len() == FACTS {
-        put_facts(0, 0, facts);
+        put_facts(0, 0, 0, 0, facts);
     }
 }
 
@@ -64,7 +72,13 @@ fn give_reading(reading: Reading, numbers: &mut [i32], facts: &mut [u32]) -> u32
     ensures record { λ r. ⌜ now (numbers .exit) ≡ after r (flat (reading .«record»)) (now (numbers .entry)) ⌝ }
     ensures facts { λ _. ⌜ now (facts .exit) ≡ factsOf reading ⌝ }
 {
-    put_facts(reading.bits, reading.skipped as u32, facts);
+    put_facts(
+        reading.bits,
+        reading.skipped as u32,
+        reading.offset,
+        mark(reading.in_wrapper),
+        facts,
+    );
     if reading.result != 0 {
         return reading.result as u32;
     }

@@ -1,5 +1,4 @@
 // What the track functions decide on picture numbers and places alone. No point is seen here.
-use refusals::Refusal;
 ghost use mathlib.Core.Path.{_≡_};
 ghost use mathlib.Core.Bool.{true};
 ghost use Prim.Native.Nat.{_+_, _<_, _≤_};
@@ -183,7 +182,7 @@ pub fn merge(a: [i32; POINTS], n: usize, b: [i32; POINTS], m: usize) -> Layout
     let mut k: usize = 0;
     while i + j < n + m {
         if k == POINTS {
-            return refused(Refusal::TOO_MANY_POINTS);
+            return refused(refusals::TOO_MANY_POINTS);
         }
         let e = clamp(i);
         let x = a[e];
@@ -208,13 +207,13 @@ pub fn decide(s: Scanned, n: usize, t: Scanned, m: usize, entries: usize) -> Lay
     ensures { λ r. ⌜ r ≡ planOf s n t m entries ⌝ }
 {
     if !s.track {
-        return refused(Refusal::NOT_A_TRACK);
+        return refused(refusals::NOT_A_TRACK);
     }
     if !t.track {
-        return refused(Refusal::NOT_A_TRACK);
+        return refused(refusals::NOT_A_TRACK);
     }
     if entries != POINTS {
-        return refused(Refusal::UNFIT_OUTPUT);
+        return refused(refusals::UNFIT_OUTPUT);
     }
     let a = s.pictures;
     let b = t.pictures;
@@ -250,7 +249,7 @@ pub fn seek(seen: Scanned, n: usize, picture: i32) -> Sought
 {
     if !seen.track {
         return Sought {
-            result: Refusal::NOT_A_TRACK,
+            result: refusals::NOT_A_TRACK,
             found: false,
             at: 0,
         };

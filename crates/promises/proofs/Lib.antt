@@ -3,6 +3,7 @@ pub mod Reasons
 pub mod Numbers
 pub mod Writing
 pub mod Units
+pub mod Where
 pub mod Starred
 pub mod Listing
 pub mod TrackLaws

@@ -47,7 +47,7 @@ one-byte : (s : List ℕ) → readWrapped s .result < 256
 one-byte s = among-bytes (readWrapped s .result) (0 ∷ wrappedNumbers) small (wrapped-data-gets-a-listed-number s)
   where
     small : Bytes (0 ∷ wrappedNumbers)
-    small = (omega arith, (omega arith, (omega arith, (omega arith, (omega arith, (omega arith, (omega arith, (omega arith, (omega arith, (omega arith, (omega arith, (omega arith, tt))))))))))))
+    small = (omega arith, (omega arith, (omega arith, (omega arith, (omega arith, (omega arith, (omega arith, (omega arith, (omega arith, (omega arith, (omega arith, (omega arith, (omega arith, (omega arith, (omega arith, tt)))))))))))))))
 
 -- what is read can be listed, and its bits are few
 listable-bits : (s : List ℕ) → Bytes s → (listable (readWrapped s) ≡ true) × (readWrapped s .bits < 2 ^ 32)

@@ -65,7 +65,7 @@ wrapped-taken s = taken wrappedNumbers refl (wrappedData (bitsOf s)) (wrapped-da
 
 -- ---- demand 1: every input gets an answer, and a refusal is empty
 
--- data gets 0 or one of the numbers 1, 2, 4 to 7 and 9 to 12: 8 does not occur
+-- data gets 0 or one of the numbers 1, 2, 4 to 7, 9 to 12 and 17 to 19: 8 does not occur
 pub bare-data-gets-a-listed-number : (s : List ℕ) → among (readBare s .result) (0 ∷ dataNumbers) ≡ true
 unfolding among
 bare-data-gets-a-listed-number s = one-of dataNumbers refl (bareData (bitsOf s)) (data-gets-a-listed-number (bitsOf s))

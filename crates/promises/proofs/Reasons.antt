@@ -24,9 +24,13 @@ use Rattle.reader.specs.Reading.{readingOf, readBare}
 use Rattle.wrapper.specs.Wrapper.{readWrapped}
 
 -- a result that is not 0 is the number of a fault
-fault-of : (o : Out Name Data) → (readingOf o .result ≡ 0 → ⊥) → (f : Fault Name) × (o ≡ no f) × (readingOf o .result ≡ numberIn f)
+pub fault-of : (o : Out Name Data) → (readingOf o .result ≡ 0 → ⊥) → (f : Fault Name) × (o ≡ no f) × (readingOf o .result ≡ numberIn f)
 fault-of (ok d n) h = absurd (h refl)
 fault-of (no f) h = (f, refl, refl)
+
+-- faults that are told alike get one answer
+alike : (f g : Fault Name) → ToldAlike f g → readingOf (no g) ≡ readingOf (no f)
+alike f g t = rw (t .number, t .offset, t .element) refl
 
 pub number-of : {o : Out Name Data} (f : Fault Name) → o ≡ no f → readingOf o .result ≡ numberIn f
 number-of f e = ap (λ (o : Out Name Data). readingOf o .result) e
@@ -47,11 +51,11 @@ module _ (told : List Bool → Out Name Data) where
   fault-with k h s e = let x = fault-in s (not-done k h e) in (x .0, x .1, sym (x .2) ∙ e)
 
   stands : ((s t : List ℕ) (f : Fault Name) → told (bitsOf s) ≡ no f → (numberIn f ≡ pastEnd → ⊥) → (g : Fault Name) × (told (bitsOf (s ++ t)) ≡ no g) × ToldAlike f g)
-      → (s t : List ℕ) → (resultOf s ≡ 0 → ⊥) → (resultOf s ≡ 1 → ⊥) → resultOf (s ++ t) ≡ resultOf s
+      → (s t : List ℕ) → (resultOf s ≡ 0 → ⊥) → (resultOf s ≡ 1 → ⊥) → readingOf (told (bitsOf (s ++ t))) ≡ readingOf (told (bitsOf s))
   stands law s t h k =
       let x = fault-in s h in
       let y = law s t (x .0) (x .1) (λ e. k (x .2 ∙ e)) in
-      number-of (y .0) (y .1) ∙ sym (y .2 .number) ∙ sym (x .2)
+      ap readingOf (y .1) ∙ alike (x .0) (y .0) (y .2) ∙ sym (ap readingOf (x .1))
 
   never-1 : (n : ℕ) → ((s : List ℕ) → n ≤ length s → (f : Fault Name) → told (bitsOf s) ≡ no f → numberIn f ≡ pastEnd → ⊥) → (s : List ℕ) → n ≤ length s → resultOf s ≡ 1 → ⊥
   never-1 n law s l e = let x = fault-with 1 (omega arith) s e in law s l (x .0) (x .1) (x .2)
@@ -71,9 +75,9 @@ a-refusal-has-its-reason s h = let x = fault-in bareData s h in (x .0, the-reaso
 pub a-reason-gives-its-number : (s : List ℕ) (f : Fault Name) → Reason (bitsOf s) f → readBare s .result ≡ numberIn f
 a-reason-gives-its-number s f r = number-of f (a-true-reason-is-given (bitsOf s) f r)
 
--- ---- a refusal other than 1 stands, whatever bytes follow
+-- ---- a refusal other than 1 stands, whatever bytes follow, with where it is
 
-pub a-refusal-other-than-1-stands : (s t : List ℕ) → (readBare s .result ≡ 0 → ⊥) → (readBare s .result ≡ 1 → ⊥) → readBare (s ++ t) .result ≡ readBare s .result
+pub a-refusal-other-than-1-stands : (s t : List ℕ) → (readBare s .result ≡ 0 → ⊥) → (readBare s .result ≡ 1 → ⊥) → readBare (s ++ t) ≡ readBare s
 a-refusal-other-than-1-stands = stands bareData bare.a-refusal-stands
 
 -- ---- 1: what is cut short
@@ -106,7 +110,7 @@ a-wrapped-refusal-has-its-reason s h = let x = fault-in wrappedData s h in (x .0
 pub a-wrapped-reason-gives-its-number : (s : List ℕ) (f : Fault Name) → WrappedReason (bitsOf s) f → readWrapped s .result ≡ numberIn f
 a-wrapped-reason-gives-its-number s f r = number-of f (wrapped.a-true-wrapped-reason-is-given (bitsOf s) f r)
 
-pub a-wrapped-refusal-other-than-1-stands : (s t : List ℕ) → (readWrapped s .result ≡ 0 → ⊥) → (readWrapped s .result ≡ 1 → ⊥) → readWrapped (s ++ t) .result ≡ readWrapped s .result
+pub a-wrapped-refusal-other-than-1-stands : (s t : List ℕ) → (readWrapped s .result ≡ 0 → ⊥) → (readWrapped s .result ≡ 1 → ⊥) → readWrapped (s ++ t) ≡ readWrapped s
 a-wrapped-refusal-other-than-1-stands = stands wrappedData wrapped.a-refusal-of-wrapped-data-stands
 
 pub every-proper-beginning-of-a-wrapped-payload-gets-1 : (d : Data) → WellFormedData d → (s t : List ℕ) → wrappedDataPayload d ≡ s ++ t → 0 < length t → readWrapped s .result ≡ 1

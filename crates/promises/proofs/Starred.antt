@@ -2,13 +2,14 @@
 -- functions answer.
 use mathlib.Core.Path.{_≡_, refl, ap, sym, _∙_}
 use mathlib.Core.List.{List, [], _∷_, map}
+use mathlib.Core.Bool.{false}
 use Rattle.tree.specs.Bits.{bitsOf}
 use Rattle.tree.specs.Reading.{Out, ok, no}
 use Rattle.record.specs.Name.{Name}
 use Rattle.record.specs.Blocks.{emptyRecord}
 use Rattle.syntax.specs.Data.{Data, bareData}
 use Rattle.syntax.specs.Wrapper.{wrappedData}
-use Rattle.syntax.specs.Limits.{Outcome, accepted, refused, outcomeOf, Case, limits, codeNumbers, longPayloads, manyBlocks, starred, wrappedCases}
+use Rattle.syntax.specs.Limits.{Outcome, accepted, refused, outcomeOf, Case, limits, codeNumbers, places, longPayloads, manyBlocks, starred, wrappedCases}
 use Rattle.syntax.proofs.Limits as tree
 use Rattle.reader.specs.declared.Reading.{Reading}
 use Rattle.reader.specs.Reading.{readingOf, readBare}
@@ -16,8 +17,8 @@ use Rattle.wrapper.specs.Wrapper.{readWrapped}
 
 -- the answer that an outcome is
 abbrev pub answerFor : Outcome → Reading
-answerFor (accepted r bits skipped) = record { result = 0; bits = bits; skipped = skipped; «record» = r }
-answerFor (refused n) = record { result = n; bits = 0; skipped = 0; «record» = emptyRecord }
+answerFor (accepted r bits skipped) = record { result = 0; bits = bits; skipped = skipped; offset = 0; «in_wrapper» = false; «record» = r }
+answerFor (refused n at mark) = record { result = n; bits = 0; skipped = 0; offset = at; «in_wrapper» = mark; «record» = emptyRecord }
 
 abbrev pub expected : Case → Reading
 expected c = answerFor (c .outcome)
@@ -54,6 +55,10 @@ the-limits-and-the-order = bare-cases limits tree.the-limits-and-the-order
 -- 02, d: numbers of ue(v) at both ends of each range and beyond, at each of the four places
 pub each-place-checks-its-own-range : map bare codeNumbers ≡ map expected codeNumbers
 each-place-checks-its-own-range = bare-cases codeNumbers tree.each-place-checks-its-own-range
+
+-- 02, e: where a fault is told to be
+pub each-fault-is-told-where-it-is : map bare places ≡ map expected places
+each-fault-is-told-where-it-is = bare-cases places tree.each-fault-is-told-where-it-is
 
 pub sixteen-of-level-2-and-no-more : map bare longPayloads ≡ map expected longPayloads
 sixteen-of-level-2-and-no-more = bare-cases longPayloads tree.sixteen-of-level-2-and-no-more

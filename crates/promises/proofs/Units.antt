@@ -25,7 +25,7 @@ use Rattle.syntax.specs.Reason.{dataNumbers, wrappedNumbers}
 use Rattle.syntax.proofs.Records.{the-record-is-valid, data-is-well-formed}
 use Rattle.syntax.proofs.Wrapped.{same-wrapped-payload, handed-on}
 use Rattle.reader.specs.declared.Reading.{Reading}
-use Rattle.reader.specs.Reading.{refusedReading, readingOf, readBare}
+use Rattle.reader.specs.Reading.{unplaced, readingOf, readBare}
 use Rattle.wrapper.specs.Wrapper.{beginsWith, readWrapped, writeWrapped, wrappedBuffer}
 use Rattle.emulation.specs.Emulation.{escaped, StartCodeInside}
 use Rattle.emulation.proofs.Laws.{removing-undoes-inserting, escaping-is-free, what-stands-is-forbidden, behind-a-header, removed-bytes}
@@ -63,10 +63,10 @@ module _ (u : List ℕ) (h : Bytes u) where
   told k e = ap (λ (q : Reading). q .result) e
 
   numbered : (f : Five) → Numbered resultOf f
-  numbered (inl t) = told (refusedReading 30) (gets-30 u t)
-  numbered (inr (inl t)) = told (refusedReading 31) (gets-31 u h t)
-  numbered (inr (inr (inl t))) = told (refusedReading 32) (gets-32 u h t)
-  numbered (inr (inr (inr (inl t)))) = told (refusedReading 33) (gets-33 u h t)
+  numbered (inl t) = told (unplaced 30) (gets-30 u t)
+  numbered (inr (inl t)) = told (unplaced 31) (gets-31 u h t)
+  numbered (inr (inr (inl t))) = told (unplaced 32) (gets-32 u h t)
+  numbered (inr (inr (inr (inl t)))) = told (unplaced 33) (gets-33 u h t)
   numbered (inr (inr (inr (inr (m, t))))) = subst (λ (n : ℕ). among n (0 ∷ wrappedNumbers) ≡ true) (sym (told (readWrapped (m .content)) (ours-is-read u h m t))) (wrapped-data-gets-a-listed-number (m .content))
 
   -- one of the five, and its number is n
@@ -74,7 +74,7 @@ module _ (u : List ℕ) (h : Bytes u) where
   at-number n e = (one-of-five u h, subst (λ (k : ℕ). Numbered k (one-of-five u h)) e (numbered (one-of-five u h)))
 
   -- 30 is given exactly when the unit is shorter than two bytes or above 4,096, its first header bit is set, its temporal id plus one is 0, or it is of another type
-  pub thirty-exactly : (resultOf ≡ 30 → Thirty u) × (Thirty u → readUnit u ≡ refusedReading 30)
+  pub thirty-exactly : (resultOf ≡ 30 → Thirty u) × (Thirty u → readUnit u ≡ unplaced 30)
   unfolding among
   thirty-exactly = (λ e. go (at-number 30 e), gets-30 u)
     where
@@ -86,7 +86,7 @@ module _ (u : List ℕ) (h : Bytes u) where
       go (inr (inr (inr (inr t))), q) = absurd (false≢true q)
 
   -- 31 exactly when it is not that, and two zero bytes are followed by 00, 01 or 02, or by 03 and then a byte above 03
-  pub thirty-one-exactly : (resultOf ≡ 31 → ThirtyOne u) × (ThirtyOne u → readUnit u ≡ refusedReading 31)
+  pub thirty-one-exactly : (resultOf ≡ 31 → ThirtyOne u) × (ThirtyOne u → readUnit u ≡ unplaced 31)
   unfolding among
   thirty-one-exactly = (λ e. go (at-number 31 e), gets-31 u h)
     where
@@ -98,7 +98,7 @@ module _ (u : List ℕ) (h : Bytes u) where
       go (inr (inr (inr (inr t))), q) = absurd (false≢true q)
 
   -- 32 exactly when it is neither, and there is no message at all, a type, size or content runs past the end, or the end is not the single byte 80 after a whole message
-  pub thirty-two-exactly : (resultOf ≡ 32 → ThirtyTwo u) × (ThirtyTwo u → readUnit u ≡ refusedReading 32)
+  pub thirty-two-exactly : (resultOf ≡ 32 → ThirtyTwo u) × (ThirtyTwo u → readUnit u ≡ unplaced 32)
   unfolding among
   thirty-two-exactly = (λ e. go (at-number 32 e), gets-32 u h)
     where
@@ -110,7 +110,7 @@ module _ (u : List ℕ) (h : Bytes u) where
       go (inr (inr (inr (inr t))), q) = absurd (false≢true q)
 
   -- 33 exactly when it is none of these, and none of the messages is ours
-  pub thirty-three-exactly : (resultOf ≡ 33 → ThirtyThree u) × (ThirtyThree u → readUnit u ≡ refusedReading 33)
+  pub thirty-three-exactly : (resultOf ≡ 33 → ThirtyThree u) × (ThirtyThree u → readUnit u ≡ unplaced 33)
   unfolding among
   thirty-three-exactly = (λ e. go (at-number 33 e), gets-33 u h)
     where
@@ -277,10 +277,11 @@ begins-is (w ∷ ws) (b ∷ s) e =
     let p = and-parts (eqb b w) (beginsWith ws s) e in
     ap (λ (x : ℕ). x ∷ s) (eqb-true b w (p .0)) ∙ ap (λ (l : List ℕ). w ∷ l) (begins-is ws s (p .1))
 
+pub our-message-begins : (m : Message) → isOurs m ≡ true → m .content ≡ wrapperBytes ++ drop 8 (m .content)
+our-message-begins m o = begins-is wrapperBytes (m .content) (and-parts (eqb (m .«payloadType») registered) (beginsWith wrapperBytes (m .content)) o .1)
+
 pub our-message-is-read-as-data : (m : Message) → isOurs m ≡ true → readWrapped (m .content) ≡ readBare (drop 8 (m .content))
-our-message-is-read-as-data m o =
-    let p = and-parts (eqb (m .«payloadType») registered) (beginsWith wrapperBytes (m .content)) o in
-    ap readWrapped (begins-is wrapperBytes (m .content) (p .1)) ∙ ap readingOf (handed-on (drop 8 (m .content)))
+our-message-is-read-as-data m o = ap readWrapped (our-message-begins m o) ∙ ap readingOf (handed-on (drop 8 (m .content)))
 
 -- a unit gets a listed number
 pub a-unit-gets-a-listed-number : (u : List ℕ) → Bytes u → among (readUnit u .result) unitNumbers ≡ true
@@ -297,10 +298,10 @@ a-unit-gets-a-listed-number u h = go (one-of-five u h)
         right a b c d = rw (or-true d, or-true c, or-true b, or-true a) refl
 
     go : Thirty u ⊎ (ThirtyOne u ⊎ (ThirtyTwo u ⊎ (ThirtyThree u ⊎ ((m : Message) × HoldsOurs u m)))) → among (readUnit u .result) unitNumbers ≡ true
-    go (inl t) = at (refusedReading 30) (gets-30 u t) refl
-    go (inr (inl t)) = at (refusedReading 31) (gets-31 u h t) refl
-    go (inr (inr (inl t))) = at (refusedReading 32) (gets-32 u h t) refl
-    go (inr (inr (inr (inl t)))) = at (refusedReading 33) (gets-33 u h t) refl
+    go (inl t) = at (unplaced 30) (gets-30 u t) refl
+    go (inr (inl t)) = at (unplaced 31) (gets-31 u h t) refl
+    go (inr (inr (inl t))) = at (unplaced 32) (gets-32 u h t) refl
+    go (inr (inr (inr (inl t)))) = at (unplaced 33) (gets-33 u h t) refl
     go (inr (inr (inr (inr (m, t))))) =
         at (readBare (drop 8 (m .content))) (ours-is-read u h m t ∙ our-message-is-read-as-data m (t .first .ours)) (further (readBare (drop 8 (m .content)) .result) (bare-data-gets-a-listed-number (drop 8 (m .content))))
 
@@ -311,7 +312,7 @@ eight-does-not-occur-in-a-unit u h = eight-is-none (readUnit u .result) unitNumb
 pub a-refused-unit-is-empty : (u : List ℕ) → Bytes u → (readUnit u .result ≡ 0 → ⊥) → (readUnit u .«record» ≡ emptyRecord) × (readUnit u .bits ≡ 0) × (readUnit u .skipped ≡ 0)
 a-refused-unit-is-empty u h n = go (one-of-five u h)
   where
-    empty : (k : ℕ) → readUnit u ≡ refusedReading k → (readUnit u .«record» ≡ emptyRecord) × (readUnit u .bits ≡ 0) × (readUnit u .skipped ≡ 0)
+    empty : (k : ℕ) → readUnit u ≡ unplaced k → (readUnit u .«record» ≡ emptyRecord) × (readUnit u .bits ≡ 0) × (readUnit u .skipped ≡ 0)
     empty k e = (ap (λ (q : Reading). q .«record») e, ap (λ (q : Reading). q .bits) e, ap (λ (q : Reading). q .skipped) e)
 
     go : Thirty u ⊎ (ThirtyOne u ⊎ (ThirtyTwo u ⊎ (ThirtyThree u ⊎ ((m : Message) × HoldsOurs u m)))) → (readUnit u .«record» ≡ emptyRecord) × (readUnit u .bits ≡ 0) × (readUnit u .skipped ≡ 0)

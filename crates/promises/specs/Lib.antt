@@ -2,3 +2,4 @@ pub mod Joins
 pub mod Units
 pub mod Payloads
 pub mod Numbers
+pub mod Where

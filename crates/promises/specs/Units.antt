@@ -19,6 +19,6 @@ pub record HoldsData (u : List ℕ) (d : Data) : Type 0 where
   pub payload : ours .content ≡ wrappedDataPayload d
   pub fits : WellFormedData d
 
--- 30 to 33, 0, and the numbers of bare data: 1, 2, 4 to 7 and 9 to 12
+-- 30 to 33, 0, and the numbers of bare data: 1, 2, 4 to 7, 9 to 12 and 17 to 19
 abbrev pub unitNumbers : List ℕ
 unitNumbers = 30 ∷ 31 ∷ 32 ∷ 33 ∷ 0 ∷ dataNumbers

@@ -9,22 +9,21 @@ use borrow.Author.Tests.{eq-eqb, ne-eqb}
 use lib.Dec.{eqb}
 use lib.ListN.{length, drop, set, length-append}
 use lib.Seq.{drop-drop}
-use Rattle.refusals.specs.Refusals.{refusal, repeated, bytesRemain}
-use Rattle.refusals.specs.declared.Refusal.{Refusal}
-use Rattle.tree.specs.Reading.{Rule, Fault, numberIn, meets, breaks, Out, ok, no, widened, mapped, toBoundary}
+use Rattle.refusals.specs.Refusals.{bytesRemain}
+use Rattle.tree.specs.Reading.{Rule, Fault, numberIn, offsetIn, meets, breaks, Out, ok, no, widened, mapped, toBoundary}
 use Rattle.tree.specs.Syntax.{Syntax, done, zeroBits, alignment, leftOver, readWhole, read, _>>=_}
 use Rattle.tree.proofs.Truth.{clash, range-of-one}
 use Rattle.tree.proofs.Tables.{then-no, then-ok, then-done, then-same, then-then}
 use Rattle.bits.specs.declared.Number.the-variants.{Is as IsNumber, Refused as RefusedNumber}
 use Rattle.bits.specs.Answer.{nameless, numberOf, spanOf}
-use Rattle.bits.proofs.Reading.{spans-ok, spans-no, named-zeros, widened-none}
+use Rattle.bits.proofs.Reading.{Told, spans-ok, spans-no, named-zeros, widened-none}
 use Rattle.record.specs.declared.Block.{Block}
 use Rattle.record.specs.declared.Record.{Record}
 use Rattle.record.specs.Name.{Name, «dm_alignment_zero_bit», «end»}
 use Rattle.record.specs.Made.{recordOf}
 use Rattle.record.specs.Blocks.{mostBlocks, noBlocks, inRange, inOrder}
 use Rattle.record.proofs.Laws.{and-left, and-right, and-both}
-use Rattle.valid.specs.Valid.{isBlock, many, validBlock, mayFollow, wellFormed, withBlock}
+use Rattle.valid.specs.Valid.{isBlock, many, validBlock, mayFollow, repeatNumber, wellFormed, withBlock}
 use Rattle.valid.proofs.Clauses.{well-formed-more, few-blocks, few-of-level-2}
 use Rattle.valid.proofs.Made.{made-more}
 use Rattle.syntax.specs.Data.{Head, Item, kept, passed, keptIn, passedIn, Data, block, blocksAfter, head, firstAlignment, «ST2094-10_data», bareData}
@@ -35,6 +34,8 @@ use Rattle.syntax.proofs.Exact.{holding, lastly, afterHead, afterFirst}
 use Rattle.syntax.proofs.Largest.{blockMost}
 use Rattle.syntax.proofs.Records.{kept-and-passed}
 use Rattle.syntax.proofs.Reasons.{kept-more}
+use Rattle.syntax.proofs.Named.{not-in-the-wrapper, told-in-bits}
+use Rattle.syntax.specs.Wrapper.{toldAt}
 use Rattle.block.specs.Parts.{partOf}
 use Rattle.block.specs.declared.Part.the-variants.{Kept, Passed, Refused as RefusedPart}
 use Rattle.block.proofs.Laws.{accepted-few, accepted-fits, part-kept, part-passed, part-no}
@@ -44,7 +45,7 @@ use Rattle.met.specs.declared.Met.{Met}
 use Rattle.met.specs.Met.{mostTargets, targetOf, metOf, targetsMet}
 use Rattle.met.proofs.Laws.{met-store}
 use Rattle.reader.specs.declared.Reading.{Reading}
-use Rattle.reader.specs.Reading.{Summary, summary, summaryOf, summaryIn, readingOf, refusedReading, endFrom, headAndBlocks}
+use Rattle.reader.specs.Reading.{Summary, summary, summaryOf, summaryIn, acceptedReading, readingOf, refusedReading, endFrom, headAndBlocks}
 
 -- what data comes to
 mapped-ok : {A B : Type 0} (f : A → B) (o : Out Name A) (b : B) (n : ℕ) → mapped f o ≡ ok b n → (a : A) × (o ≡ ok a n) × (f a ≡ b)
@@ -83,10 +84,11 @@ module _ (before : List Block) (k at : ℕ) (s : List Bool) where
   abbrev others : Item → Unit {0} → Syntax Name (List Item)
   others i o = blocksAfter (before ++ keptIn (i ∷ [])) k >>= λ is. done (i ∷ is)
 
-  blocks-repeated : (b : Block) (m : ℕ) → read block at s ≡ ok (kept b) m → mayFollow before b ≡ false → (f : Fault Name) × (numberIn f ≡ repeated) × (read (blocksAfter before (suc k)) at s ≡ no f)
+  blocks-repeated : (b : Block) (m : ℕ) → read block at s ≡ ok (kept b) m → mayFollow before b ≡ false
+      → Told (read (blocksAfter before (suc k)) at s) (repeatNumber before b) at
   blocks-repeated b m e h =
       let r = read-may-not-follow (others (kept b)) (at + m) (drop m s) at before b (fits-block b (own (kept b) m e)) h in
-      (breaks (r .0), r .1, next-read (kept b) m e ∙ ap (widened m) (r .2))
+      (breaks (r .0), next-read (kept b) m e ∙ ap (widened m) (r .3), sym (r .1), sym (r .2))
 
   -- the rules let it through
   follows : (i : Item) (m : ℕ) → itemFits i ≡ true → itemFollows before i ≡ true → read (behind at before k i) (at + m) (drop m s) ≡ read (others i tt) (at + m) (drop m s)
@@ -183,10 +185,10 @@ module _ (flag : Bool) (bits : List Bool) (start n : ℕ) where
       onward : (o : Out Name (List Item)) → read (blocksAfter known (suc (n - (i + 1)))) there (drop there bits) ≡ o → allOf flag bits start n ≡ widened width (mapped (λ rest. summaryOf flag (x .met ++ rest)) o)
       onward o e = sym (x .answer) ∙ rw (next, e) refl
 
-      pub reached-no : (q : Refusal) → RefusedPart q ≡ partOf (read block there (drop there bits)) → (f : Fault Name) × (allOf flag bits start n ≡ no f) × (q ≡ refusal (numberIn f))
-      reached-no q e =
-          let f = part-no (read block there (drop there bits)) q e in
-          (f .0, onward (no (f .0)) (blocks-no known (n - (i + 1)) there (drop there bits) (f .0) (f .1)), f .2)
+      pub reached-no : (j w : ℕ) → RefusedPart j w ≡ partOf (read block there (drop there bits)) → Told (allOf flag bits start n) j w
+      reached-no j w e =
+          let f = part-no (read block there (drop there bits)) j w e in
+          (f .0, onward (no (f .0)) (blocks-no known (n - (i + 1)) there (drop there bits) (f .0) (f .1)), f .2, f .3)
 
       -- with a block more, where it may follow
       reached-item : (j : Item) (w : ℕ) → read block there (drop there bits) ≡ ok j w → itemFollows known j ≡ true → (q : Record) (p : Met) (us : List ℕ) (k : ℕ)
@@ -224,7 +226,7 @@ module _ (flag : Bool) (bits : List Bool) (start n : ℕ) where
           reached-item j w (o .3) refl r m ts (skipped + 1) (rw kept (x .walk)) (x .made ∙ ap (recordOf flag) (sym kept)) (x .counted ∙ ap metOf (sym kept)) (x .aimed ∙ ap targetsMet (sym kept))
           (omega (arith, x .others, passed-more (x .met) j))
 
-      module _ (b : Block) (w : ℕ) (e : Kept b w ≡ partOf (read block there (drop there bits))) where
+      module _ (b : Block) (w : ℕ) (e : Kept w b ≡ partOf (read block there (drop there bits))) where
         one-read : read block there (drop there bits) ≡ ok (kept b) w
         one-read = part-kept (read block there (drop there bits)) b w e
 
@@ -239,10 +241,13 @@ module _ (flag : Bool) (bits : List Bool) (start n : ℕ) where
           may-follow-is : test ≡ mayFollow known b
           may-follow-is = decided known (x .counted) (x .aimed)
 
-          pub reached-repeated : test ≡ false → (f : Fault Name) × (allOf flag bits start n ≡ no f) × (numberIn f ≡ repeated)
-          reached-repeated f =
-              let y = blocks-repeated known (n - (i + 1)) there (drop there bits) b w one-read (sym may-follow-is ∙ f) in
-              (y .0, onward (no (y .0)) (y .2), y .1)
+          -- and which repeat it is
+          pub reached-repeated : test ≡ false → (number : ℕ) → ((before : List Block) → m ≡ metOf before → mayFollow before b ≡ false → number ≡ repeatNumber before b)
+              → Told (allOf flag bits start n) number there
+          reached-repeated f number told =
+              let may-not = sym may-follow-is ∙ f in
+              let y = blocks-repeated known (n - (i + 1)) there (drop there bits) b w one-read may-not in
+              (y .0, onward (no (y .0)) (y .1), told known (x .counted) may-not ∙ y .2, y .3)
 
           module _ (f : test ≡ true) where
             may : mayFollow known b ≡ true
@@ -341,15 +346,15 @@ data-read s =
 
 -- ---- the answer
 
--- what was found up to the last block, and what stands behind it
-abbrev ended : Summary → Out Name ℕ → Reading
-ended r (ok bits m) = record { result = 0; bits = bits; skipped = r .skipped; «record» = r .«record» }
-ended r (no f) = refusedReading (numberIn f)
+-- what stands behind the last block, and the whole: a fault of the one is that of the other; else the data comes to r, and so many bits are read
+abbrev Ends : Summary → Out Name ℕ → Out Name Data → Type 0
+Ends r (ok bits m) o = (d : Data) × (o ≡ ok d bits) × (summaryIn d ≡ r)
+Ends r (no f) o = o ≡ no f
 
--- the answer to the whole, and what stands behind the last block, go by the same test: bytes remain, or none do
-by-the-end : (b : Bool) (q : Rule Name) (d : Data) (n m : ℕ) → ended (summaryIn d) (widened m (cond b (ok n 0) (no (breaks q)))) ≡ readingOf (widened n (cond b (ok d 0) (no (breaks q))))
-by-the-end true q d n m = rw (add-zero n)
-by-the-end false q d n m = refl
+-- they go by the same test: bytes remain, or none do
+by-the-end : (b : Bool) (q : Rule Name) (d : Data) (r : Summary) (n m : ℕ) → summaryIn d ≡ r → Ends r (widened m (cond b (ok n 0) (no (breaks q)))) (widened n (cond b (ok d 0) (no (breaks q))))
+by-the-end true q d r n m e = (d, ap (ok d) (add-zero n), e)
+by-the-end false q d r n m e = refl
 
 -- bytes that remain behind n bits
 abbrev rest : List Bool → ℕ → Rule Name
@@ -372,10 +377,11 @@ module _ (at : ℕ) (s : List Bool) where
   unfolding read
   aligned = refl
 
-  pub end-refused : (q : Refusal) → RefusedNumber q ≡ spanOf gap → RefusedNumber q ≡ numberOf (endFrom at (drop at s))
-  end-refused q e =
-      let f = spans-no (read (zeroBits «dm_alignment_zero_bit» (toBoundary at)) at (drop at s)) q (e ∙ named-zeros «dm_alignment_zero_bit» (toBoundary at) at (drop at s)) in
-      rw (aligned, f .1) (ap (λ (x : Refusal). RefusedNumber x) (f .2))
+  pub end-refused : (j w : ℕ) → RefusedNumber j w ≡ spanOf gap → RefusedNumber j w ≡ numberOf (endFrom at (drop at s))
+  end-refused j w e = go (spans-no (read (zeroBits «dm_alignment_zero_bit» (toBoundary at)) at (drop at s)) j w (e ∙ named-zeros «dm_alignment_zero_bit» (toBoundary at) at (drop at s)))
+    where
+      go : Told (read (zeroBits «dm_alignment_zero_bit» (toBoundary at)) at (drop at s)) j w → RefusedNumber j w ≡ numberOf (endFrom at (drop at s))
+      go (f, q, x, y) = rw (aligned, q, x, y) refl
 
   module _ (z m : ℕ) (e : IsNumber z m ≡ spanOf gap) where
     gap-read : read (zeroBits «dm_alignment_zero_bit» (toBoundary at)) at (drop at s) ≡ ok tt m
@@ -390,25 +396,37 @@ module _ (at : ℕ) (s : List Bool) where
     end-test : endFrom at (drop at s) ≡ widened m (cond (eqb left 0) (ok (at + m) 0) (no (breaks (rest s (at + m)))))
     end-test = zeros-then-end s at m (aligned ∙ gap-read) ∙ rw (range-of-one 0 left) refl
 
-    pub end-remains : (left ≡ 0 → ⊥) → RefusedNumber (refusal bytesRemain) ≡ numberOf (endFrom at (drop at s))
+    pub end-remains : (left ≡ 0 → ⊥) → RefusedNumber bytesRemain (at + m) ≡ numberOf (endFrom at (drop at s))
     end-remains h = sym (ap numberOf end-test ∙ rw (ne-eqb left 0 h) refl)
 
     pub end-is : left ≡ 0 → IsNumber (at + m) m ≡ numberOf (endFrom at (drop at s))
     end-is h = sym (ap numberOf end-test ∙ rw (eq-eqb left 0 h, add-zero m) refl)
 
 module _ (s : List Bool) where
-  data-refused : (f : Fault Name) → mapped summaryIn (read «ST2094-10_data» 0 s) ≡ no f → refusedReading (numberIn f) ≡ readingOf (bareData s)
+  -- the answer to data with a fault
+  abbrev pub Answers : Fault Name → Type 0
+  Answers f = refusedReading (numberIn f) (offsetIn f) false ≡ readingOf (bareData s)
+
+  -- of which the code has the number and the offset
+  pub by-told : (j w : ℕ) (f : Fault Name) → j ≡ numberIn f → w ≡ offsetIn f → Answers f → refusedReading j w false ≡ readingOf (bareData s)
+  by-told j w f x y a = ap (λ (k : ℕ). refusedReading k w false) x ∙ ap (λ (at : ℕ). refusedReading (numberIn f) at false) y ∙ a
+
+  pub fault-told : (f : Fault Name) → bareData s ≡ no f → Answers f
+  fault-told f e =
+      ap (λ (at : ℕ). refusedReading (numberIn f) at false) (sym (told-in-bits s f e)) ∙ ap (refusedReading (numberIn f) (toldAt f)) (sym (not-in-the-wrapper s f e)) ∙ sym (ap readingOf e)
+
+  data-refused : (f : Fault Name) → mapped summaryIn (read «ST2094-10_data» 0 s) ≡ no f → bareData s ≡ no f
   unfolding readWhole
-  data-refused f e = sym (rw (mapped-no summaryIn (read «ST2094-10_data» 0 s) f e) refl)
+  data-refused f e = rw (mapped-no summaryIn (read «ST2094-10_data» 0 s) f e) refl
 
   -- no head, no data
-  pub no-head : (f : Fault Name) → read opening 0 s ≡ no f → refusedReading (numberIn f) ≡ readingOf (bareData s)
-  no-head f e = data-refused f (data-read s ∙ then-no headAndBlocks ending 0 s f (both-no s f e))
+  pub no-head : (f : Fault Name) → read opening 0 s ≡ no f → Answers f
+  no-head f e = fault-told f (data-refused f (data-read s ∙ then-no headAndBlocks ending 0 s f (both-no s f e)))
 
   -- behind a head
   module _ (h : Head) (start : ℕ) (e : read opening 0 s ≡ ok h start) where
-    pub no-blocks : (f : Fault Name) → blocksFrom h start (drop start s) ≡ no f → refusedReading (numberIn f) ≡ readingOf (bareData s)
-    no-blocks f g = data-refused f (data-read s ∙ then-no headAndBlocks ending 0 s f (both-later s h start e f g))
+    pub no-blocks : (f : Fault Name) → blocksFrom h start (drop start s) ≡ no f → Answers f
+    no-blocks f g = fault-told f (data-refused f (data-read s ∙ then-no headAndBlocks ending 0 s f (both-later s h start e f g)))
 
     -- and behind the blocks
     module _ (r : Summary) (width : ℕ) (g : blocksFrom h start (drop start s) ≡ ok r width) where
@@ -421,19 +439,19 @@ module _ (s : List Bool) where
       before-the-end : mapped summaryIn (read «ST2094-10_data» 0 s) ≡ widened last (read (ending r) last (drop last s))
       before-the-end = data-read s ∙ then-ok headAndBlocks ending 0 s r last up-to-there ∙ rw (zero-add last) refl
 
-      the-end : ended r (endFrom last (drop last s)) ≡ readingOf (bareData s)
+      the-end : Ends r (endFrom last (drop last s)) (bareData s)
       the-end = go (read (alignment «dm_alignment_zero_bit») last (drop last s)) refl
         where
-          go : (o : Out Name (Unit {0})) → read (alignment «dm_alignment_zero_bit») last (drop last s) ≡ o → ended r (endFrom last (drop last s)) ≡ readingOf (bareData s)
+          go : (o : Out Name (Unit {0})) → read (alignment «dm_alignment_zero_bit») last (drop last s) ≡ o → Ends r (endFrom last (drop last s)) (bareData s)
           go (no f) q = rw q (data-refused f (before-the-end ∙ ap (widened last) (then-no (alignment «dm_alignment_zero_bit») (λ z. done r) last (drop last s) f q)))
           go (ok z m) q =
               let k = mapped-ok summaryIn (read «ST2094-10_data» 0 s) r (last + m) (before-the-end ∙ ap (widened last) (then-done (alignment «dm_alignment_zero_bit») (λ z. r) last (drop last s) ∙ ap (mapped (λ z. r)) q)) in
-              let b = meets (rest s (last + m)) in
-              ap (ended r) (zeros-then-end s last m q) ∙ ap (λ (y : Summary). ended y (widened m (cond b (ok (last + m) 0) (no (breaks (rest s (last + m))))))) (sym (k .2))
-              ∙ by-the-end b (rest s (last + m)) (k .0) (last + m) m ∙ sym (ap readingOf (data-then-end s (k .0) (last + m) (k .1)))
+              rw (zeros-then-end s last m q, data-then-end s (k .0) (last + m) (k .1)) (by-the-end (meets (rest s (last + m))) (rest s (last + m)) (k .0) r (last + m) m (k .2))
 
-      pub no-end : (f : Fault Name) → endFrom last (drop last s) ≡ no f → refusedReading (numberIn f) ≡ readingOf (bareData s)
-      no-end f q = sym (ap (ended r) q) ∙ the-end
+      pub no-end : (f : Fault Name) → endFrom last (drop last s) ≡ no f → Answers f
+      no-end f q = fault-told f (rw q at the-end)
 
-      pub at-the-end : (bits m : ℕ) → endFrom last (drop last s) ≡ ok bits m → record { result = 0; bits = bits; skipped = r .skipped; «record» = r .«record» } ≡ readingOf (bareData s)
-      at-the-end bits m q = sym (ap (ended r) q) ∙ the-end
+      pub at-the-end : (bits m : ℕ) → endFrom last (drop last s) ≡ ok bits m → acceptedReading bits (r .skipped) (r .«record») ≡ readingOf (bareData s)
+      at-the-end bits m q =
+          let x : Ends r (ok bits m) (bareData s) = rw q at the-end in
+          sym (ap readingOf (x .1) ∙ ap (λ (y : Summary). acceptedReading bits (y .skipped) (y .«record»)) (x .2))

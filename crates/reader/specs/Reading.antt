@@ -1,7 +1,7 @@
 -- What reading answers, and on the way to it; and the table as far as the last block.
 use Prim.Native.Nat.{ℕ}
 use mathlib.Core.List.{List, []}
-use mathlib.Core.Bool.{Bool, cond}
+use mathlib.Core.Bool.{Bool, false, cond}
 use Rattle.tree.specs.Bits.{bitsOf}
 use Rattle.tree.specs.Reading.{meets, breaks, numberIn, Out, ok, no, andThen}
 use Rattle.tree.specs.Syntax.{Syntax, done, _>>=_, read, alignment, leftOver}
@@ -10,17 +10,26 @@ use Rattle.record.specs.Name.{Name, «dm_alignment_zero_bit», «end»}
 use Rattle.record.specs.Made.{recordOf}
 use Rattle.record.specs.Blocks.{emptyRecord}
 use Rattle.syntax.specs.Data.{Item, keptIn, passedIn, Data, recordFrom, blocksAfter, bareData}
+use Rattle.syntax.specs.Wrapper.{inWrapper, toldAt}
 use Rattle.head.specs.Opening.{opening}
 use Rattle.reader.specs.declared.Reading.{Reading}
 
 -- 01, The record: an accepted reading gives the record and the bits read, and by 02, b the number of blocks passed over; on a refusal
--- these are the empty record, 0 and 0
-abbrev pub refusedReading : ℕ → Reading
-refusedReading k = record { result = k; bits = 0; skipped = 0; «record» = emptyRecord }
+-- these are the empty record, 0 and 0. By 02, e a refusal gives where the failing element begins, and whether that is counted from the
+-- wrapper; an accepted reading has 0 there, and no mark
+abbrev pub acceptedReading : (bits skipped : ℕ) → Record → Reading
+acceptedReading n k r = record { result = 0; bits = n; skipped = k; offset = 0; «in_wrapper» = false; «record» = r }
+
+abbrev pub refusedReading : (number offset : ℕ) → (wrapper : Bool) → Reading
+refusedReading k at mark = record { result = k; bits = 0; skipped = 0; offset = at; «in_wrapper» = mark; «record» = emptyRecord }
+
+-- a refusal of no element has no place
+abbrev pub unplaced : ℕ → Reading
+unplaced k = refusedReading k 0 false
 
 abbrev pub readingOf : Out Name Data → Reading
-readingOf (ok d n) = record { result = 0; bits = n; skipped = passedIn (d .items); «record» = recordFrom d }
-readingOf (no f) = refusedReading (numberIn f)
+readingOf (ok d n) = acceptedReading n (passedIn (d .items)) (recordFrom d)
+readingOf (no f) = refusedReading (numberIn f) (toldAt f) (inWrapper f)
 
 -- what read_data answers
 abbrev pub readBare : List ℕ → Reading

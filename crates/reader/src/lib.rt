@@ -5,8 +5,8 @@ use head::Opening;
 use met::Met;
 use record::Place;
 use record::Record;
-use refusals::Refusal;
 ghost use mathlib.Core.Path.{_≡_};
+ghost use mathlib.Core.Bool.{false};
 ghost use Prim.Native.Nat.{_<_, _^_};
 ghost use lib.ListN.{drop};
 ghost use Rattle.tree.specs.Bits.{bitsOf};
@@ -15,50 +15,58 @@ ghost use Rattle.tree.specs.Syntax.{read};
 ghost use Rattle.bits.specs.Answer.{numberOf};
 ghost use Rattle.syntax.specs.Data.{announced};
 ghost use Rattle.head.specs.Opening.{opening};
-ghost use Rattle.reader.specs.Reading.{refusedReading, readBare, endFrom};
+ghost use Rattle.reader.specs.Reading.{refusedReading, unplaced, readBare, endFrom};
 
-// 0 or the number of the refusal, the number of blocks of reserved levels that were passed over (beside it, where it takes no room of
-// its own), the bits read, and the record.
+// 0 or the number of the refusal, the number of blocks of reserved levels that were passed over and whether a refusal is in the wrapper
+// (beside it, where they take no room of their own), the bits read, where a refused element begins, and the record.
 pub struct Reading {
     pub result: u8,
     pub skipped: u8,
+    pub in_wrapper: bool,
     pub bits: u32,
+    pub offset: u32,
     pub record: Record,
 }
 
 // 01, The record: beside a refusal the record is empty.
-fn refused(number: u8) -> Reading
-    ensures { λ r. ⌜ r ≡ refusedReading number ⌝ }
+fn refused(number: u8, offset: u32) -> Reading
+    ensures { λ r. ⌜ r ≡ refusedReading (number) (offset) false ⌝ }
 {
     let record = Record::empty();
     Reading {
         result: number,
-        bits: 0,
         skipped: 0,
+        in_wrapper: false,
+        bits: 0,
+        offset: offset,
         record,
     }
 }
 
+// 02, e: a refusal of no element, as of a unit, has no place.
+pub fn unplaced(number: u8) -> Reading
+    ensures { λ r. ⌜ r ≡ unplaced number ⌝ }
+{
+    refused(number, 0)
+}
+
 // What stands behind the last block: zero bits to the next byte boundary, where the input ends. Its number is the position there.
 fn read_end(s: &[u8], at: usize) -> Number
-    requires { ⌜ at < 2 ^ 31 ⌝ }
+    requires { ⌜ at < 2 ^ 30 ⌝ }
     ensures { λ r. ⌜ r ≡ numberOf (endFrom at (drop at (bitsOf (now (s .entry))))) ⌝ }
 {
     match bits::read_zeros(s, at, head::zeros_behind(true, at)) {
-        Number::Refused { why } => Number::Refused { why },
+        Number::Refused { number, offset } => Number::Refused { number, offset },
         Number::Is { width, .. } => {
             let end = at + width;
+            let bits = end as u32;
             if end / 8 < s.len() {
                 Number::Refused {
-                    why: Refusal {
-                        number: Refusal::BYTES_REMAIN,
-                    },
+                    number: refusals::BYTES_REMAIN,
+                    offset: bits,
                 }
             } else {
-                Number::Is {
-                    value: end as u32,
-                    width,
-                }
+                Number::Is { value: bits, width }
             }
         }
     }
@@ -79,8 +87,8 @@ fn read_blocks(s: &[u8], start: usize, refresh: bool, n: u8) -> Reading
     let mut i: u8 = 0;
     while i < n {
         match block::read_block(s, start + width) {
-            Part::Refused { why } => {
-                return refused(why.number);
+            Part::Refused { number, offset } => {
+                return refused(number, offset);
             }
             Part::Passed { width: w } => {
                 skipped += 1;
@@ -98,17 +106,19 @@ fn read_blocks(s: &[u8], start: usize, refresh: bool, n: u8) -> Reading
                     width += m;
                     i += 1;
                 } else {
-                    return refused(Refusal::REPEATED);
+                    return refused(met::repeat_of(seen, block), (start + width) as u32);
                 }
             }
         }
     }
     match read_end(s, start + width) {
-        Number::Refused { why } => refused(why.number),
+        Number::Refused { number, offset } => refused(number, offset),
         Number::Is { value: bits, .. } => Reading {
             result: 0,
             skipped,
+            in_wrapper: false,
             bits,
+            offset: 0,
             record: r,
         },
     }
@@ -119,7 +129,7 @@ pub fn read_data(input: &[u8]) -> Reading
     ensures { λ r. ⌜ r ≡ readBare (now (input .entry)) ⌝ }
 {
     match head::read_head(input) {
-        Opening::Refused { why } => refused(why.number),
+        Opening::Refused { number, offset } => refused(number, offset),
         Opening::Is {
             refresh,
             count,

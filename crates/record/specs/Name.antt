@@ -1,4 +1,6 @@
 -- The names of the syntax elements of A/341, tables E.1.1 to E.1.3, in their order there; then of what a refusal can be about that is none of them: the end of the data, and the wrapper.
+use mathlib.Core.Bool.{Bool, true, false}
+
 pub data Name : Type 0 where
   «app_identifier» : Name
   «app_version» : Name
@@ -24,3 +26,30 @@ pub data Name : Type 0 where
   «ext_dm_alignment_zero_bit» : Name
   «end» : Name
   «wrapper» : Name
+
+-- what a refusal is about is a byte of the wrapper
+abbrev pub isWrapper : Name → Bool
+isWrapper «app_identifier» = false
+isWrapper «app_version» = false
+isWrapper «metadata_refresh_flag» = false
+isWrapper «num_ext_blocks» = false
+isWrapper «dm_alignment_zero_bit» = false
+isWrapper «ext_block_length» = false
+isWrapper «ext_block_level» = false
+isWrapper «min_PQ» = false
+isWrapper «max_PQ» = false
+isWrapper «avg_PQ» = false
+isWrapper «target_max_PQ» = false
+isWrapper «trim_slope» = false
+isWrapper «trim_offset» = false
+isWrapper «trim_power» = false
+isWrapper «trim_chroma_weight» = false
+isWrapper «trim_saturation_gain» = false
+isWrapper «ms_weight» = false
+isWrapper «active_area_left_offset» = false
+isWrapper «active_area_right_offset» = false
+isWrapper «active_area_top_offset» = false
+isWrapper «active_area_bottom_offset» = false
+isWrapper «ext_dm_alignment_zero_bit» = false
+isWrapper «end» = false
+isWrapper «wrapper» = true

@@ -1,10 +1,5 @@
 -- 01, Refusal numbers, and those of 02's requests: each is named here, and nowhere else.
 use Prim.Native.Nat.{ℕ}
-use Rattle.refusals.specs.declared.Refusal.{Refusal}
-
--- what the code holds of a refusal: its number
-abbrev pub refusal : ℕ → Refusal
-refusal n = record { number = n }
 
 -- a bit or byte is needed past the end of the input
 abbrev pub pastEnd : ℕ
@@ -42,9 +37,9 @@ wrongLength = 9
 abbrev pub notInOrder : ℕ
 notInOrder = 10
 
--- second level 1, second level 5, 17th level 2, or a target_max_PQ already met
-abbrev pub repeated : ℕ
-repeated = 11
+-- a target_max_PQ already met (02, e: the other repeats are 17, 18 and 19)
+abbrev pub repeatedTarget : ℕ
+repeatedTarget = 11
 
 -- bytes remain after the data
 abbrev pub bytesRemain : ℕ
@@ -65,6 +60,18 @@ tooManyPoints = 15
 -- not a track
 abbrev pub notATrack : ℕ
 notATrack = 16
+
+-- 02, e: second level 1
+abbrev pub secondLevel1 : ℕ
+secondLevel1 = 17
+
+-- 02, e: second level 5
+abbrev pub secondLevel5 : ℕ
+secondLevel5 = 18
+
+-- 02, e: seventeenth level 2
+abbrev pub seventeenthLevel2 : ℕ
+seventeenthLevel2 = 19
 
 -- 02, a: a unit shorter than two bytes or above 4,096, first header bit set, temporal id plus one of 0, or another type
 abbrev pub wrongUnit : ℕ

@@ -17,7 +17,7 @@ use Rattle.record.specs.declared.Record.{Record}
 use Rattle.record.specs.Blocks.{mostBlocks}
 use Rattle.valid.specs.Valid.{valid, Proper}
 use Rattle.syntax.specs.Wrapper.{wrappedPayload}
-use Rattle.reader.specs.Reading.{refusedReading}
+use Rattle.reader.specs.Reading.{unplaced}
 use Rattle.emulation.specs.Emulation.{forbidden, removed, escaped}
 use Rattle.emulation.proofs.Laws.{escaped-fits}
 use Rattle.rbsp.specs.Message.{trailing}
@@ -66,10 +66,10 @@ beginning bytes rest out n e f = (omega (arith, e, ap (length {A = ℕ}) f, leng
 
 -- the three answers, in their order
 module _ (u : List ℕ) where
-  pub not-admitted : admitted u ≡ false → refusedReading wrongUnit ≡ readUnit u
+  pub not-admitted : admitted u ≡ false → unplaced wrongUnit ≡ readUnit u
   not-admitted e = rw e refl
 
-  pub start-code : admitted u ≡ true → forbidden u ≡ true → refusedReading startCodeInside ≡ readUnit u
+  pub start-code : admitted u ≡ true → forbidden u ≡ true → unplaced startCodeInside ≡ readUnit u
   start-code e f = rw (e, f) refl
 
   pub body-read : admitted u ≡ true → forbidden u ≡ false → readMessages (removed (drop 2 u)) ≡ readUnit u

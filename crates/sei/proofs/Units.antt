@@ -10,7 +10,7 @@ use lib.ListN.{length, drop}
 use Rattle.refusals.specs.Refusals.{wrongUnit, startCodeInside, brokenMessages, noneOfOurs}
 use Rattle.tree.specs.Bits.{Bytes}
 use Rattle.tree.proofs.Lists.{bytes-drop}
-use Rattle.reader.specs.Reading.{refusedReading}
+use Rattle.reader.specs.Reading.{unplaced}
 use Rattle.wrapper.specs.Wrapper.{readWrapped}
 use Rattle.emulation.specs.Emulation.{forbidden, removed, escaped, StartCodeInside}
 use Rattle.emulation.proofs.Laws.{removing-undoes-inserting, escaping-is-free, free-is-an-escaping, forbidden-stands, what-stands-is-forbidden, behind-a-header, removed-bytes}
@@ -40,21 +40,21 @@ none-inside u n = go (forbidden u) refl
 
 -- ---- each is given
 
-pub gets-30 : (u : List ℕ) → Thirty u → readUnit u ≡ refusedReading wrongUnit
+pub gets-30 : (u : List ℕ) → Thirty u → readUnit u ≡ unplaced wrongUnit
 gets-30 u w = rw (wrong-is-not-admitted u w) refl
 
 module _ (u : List ℕ) (h : Bytes u) where
-  pub gets-31 : ThirtyOne u → readUnit u ≡ refusedReading startCodeInside
+  pub gets-31 : ThirtyOne u → readUnit u ≡ unplaced startCodeInside
   gets-31 t = rw (right-is-admitted u h (t .rightUnit), what-stands-is-forbidden u (t .inside)) refl
 
   -- the messages decide
   by-messages : (WrongUnit u → ⊥) → (StartCodeInside u → ⊥) → readUnit u ≡ readMessages (bodyOf u)
   by-messages r n = rw (right-is-admitted u h r, none-inside u n) refl
 
-  pub gets-32 : ThirtyTwo u → readUnit u ≡ refusedReading brokenMessages
+  pub gets-32 : ThirtyTwo u → readUnit u ≡ unplaced brokenMessages
   gets-32 t = by-messages (t .rightUnit) (t .noneInside) ∙ ap readOurs (broken-is-not-read (bodyOf u) (t .isBroken))
 
-  pub gets-33 : ThirtyThree u → readUnit u ≡ refusedReading noneOfOurs
+  pub gets-33 : ThirtyThree u → readUnit u ≡ unplaced noneOfOurs
   gets-33 t =
       by-messages (t .rightUnit) (t .noneInside) ∙ ap readMessages (t .all) ∙ ap readOurs (messages-are-read (t .messages) (t .oneOrMore)) ∙ ap readFirst (none-ours-none (t .messages) (t .noneOurs))
 

@@ -9,7 +9,7 @@ use Rattle.output.specs.Output.{writtenAs, bufferAs}
 use Rattle.record.specs.declared.Record.{Record}
 use Rattle.valid.specs.Valid.{valid}
 use Rattle.reader.specs.declared.Reading.{Reading}
-use Rattle.reader.specs.Reading.{refusedReading}
+use Rattle.reader.specs.Reading.{unplaced}
 use Rattle.emulation.specs.Emulation.{forbidden, removed, escaped}
 use Rattle.rbsp.specs.Message.{Message, «sei_rbsp»}
 use Rattle.messages.specs.Answer.{readMessages, messageRbsp}
@@ -21,10 +21,10 @@ unitOf first second ms = first ∷ second ∷ escaped («sei_rbsp» ms)
 
 -- read_unit: 30, then 31, then 32 and 33, each over the whole unit and before document 01's numbers
 abbrev pub readBody : Bool → List ℕ → Reading
-readBody startCode u = cond startCode (refusedReading startCodeInside) (readMessages (removed (drop 2 u)))
+readBody startCode u = cond startCode (unplaced startCodeInside) (readMessages (removed (drop 2 u)))
 
 abbrev pub readUnit : List ℕ → Reading
-readUnit u = cond (admitted u) (readBody (forbidden u) u) (refusedReading wrongUnit)
+readUnit u = cond (admitted u) (readBody (forbidden u) u) (unplaced wrongUnit)
 
 -- the header that we write: type 39, layer 0, temporal id plus one of 1
 abbrev pub ourHeader : List ℕ

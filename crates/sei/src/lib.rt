@@ -2,7 +2,6 @@
 use output::Written;
 use reader::Reading;
 use record::Record;
-use refusals::Refusal;
 ghost use mathlib.Core.Path.{_≡_};
 ghost use mathlib.Core.Bool.{true};
 ghost use mathlib.Core.List.{_++_};
@@ -61,14 +60,10 @@ pub fn read_unit(input: &[u8]) -> Reading
     ensures { λ r. ⌜ r ≡ readUnit (now (input .entry)) ⌝ }
 {
     if !is_admitted(input) {
-        return wrapper::refused(Refusal {
-            number: Refusal::WRONG_UNIT,
-        });
+        return reader::unplaced(refusals::WRONG_UNIT);
     }
     if emulation::has_forbidden(input) {
-        return wrapper::refused(Refusal {
-            number: Refusal::START_CODE_INSIDE,
-        });
+        return reader::unplaced(refusals::START_CODE_INSIDE);
     }
     read_body(&input[2..])
 }
@@ -82,7 +77,7 @@ fn write_escaped(body: &[u8], out: &mut [u8]) -> Written
     let n = emulation::escaped_length(body) + HEADER_BYTES;
     if out.len() < n {
         return Written {
-            result: Refusal::UNFIT_OUTPUT,
+            result: refusals::UNFIT_OUTPUT,
             bytes: 0,
         };
     }

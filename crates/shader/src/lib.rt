@@ -1,6 +1,5 @@
 // The numbers that the shader gets for a level 2 block: each exactly its code divided by 4,096.
 use record::Block;
-use refusals::Refusal;
 ghost use mathlib.Core.Path.{_≡_};
 ghost use mathlib.Core.Bool.{true};
 ghost use mathlib.Core.List.{map};
@@ -16,7 +15,7 @@ ghost use Rattle.singles.specs.Singles.{singleBits};
 ghost use Rattle.shader.specs.Shader.{conversionResult, conversionBits, bitsIn};
 
 // 01, Refusal numbers.
-const NOT_CONVERTIBLE: u8 = Refusal::NOT_VALID;
+const NOT_CONVERTIBLE: u8 = refusals::NOT_VALID;
 
 // The seven numbers, in the order of the block's fields.
 pub struct Numbers {

@@ -6,6 +6,7 @@ pub mod Exact
 pub mod Records
 pub mod Largest
 pub mod Reasons
+pub mod Named
 pub mod Stands
 pub mod Numbers
 pub mod Wrapped

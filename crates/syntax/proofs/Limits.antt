@@ -9,7 +9,7 @@ use Rattle.tree.specs.Coding.{totalWidth}
 use Rattle.valid.specs.Valid.{many, targets}
 use Rattle.syntax.specs.Data.{blockCount, head, content, reservedContent, wholeBlock, block, keptIn, passedIn, blocksAfter, «ST2094-10_data», bareData}
 use Rattle.syntax.specs.Wrapper.{wrappedData}
-use Rattle.syntax.specs.Limits.{Outcome, outcomeOf, Case, limits, codeNumbers, longPayloads, manyBlocks, starred, wrappedCases}
+use Rattle.syntax.specs.Limits.{Outcome, outcomeOf, Case, limits, codeNumbers, places, longPayloads, manyBlocks, starred, wrappedCases}
 
 abbrev pub found : Case → Outcome
 found c = outcomeOf (bareData (bitsOf (c .bytes)))
@@ -25,6 +25,11 @@ the-limits-and-the-order = refl
 pub each-place-checks-its-own-range : map found codeNumbers ≡ map expected codeNumbers
 unfolding bitsOf code valueFrom u i ue zerosThenOne amongZ totalWidth read _>>=_ row zeroBits readWhole many targets blockCount head content reservedContent wholeBlock block keptIn passedIn blocksAfter «ST2094-10_data»
 each-place-checks-its-own-range = refl
+
+-- 02, e
+pub each-fault-is-told-where-it-is : map found places ≡ map expected places
+unfolding bitsOf code valueFrom u i ue zerosThenOne amongZ totalWidth read _>>=_ row zeroBits readWhole many targets blockCount head content reservedContent wholeBlock block keptIn passedIn blocksAfter «ST2094-10_data»
+each-fault-is-told-where-it-is = refl
 
 pub sixteen-of-level-2-and-no-more : map found longPayloads ≡ map expected longPayloads
 unfolding bitsOf code valueFrom u i ue zerosThenOne amongZ totalWidth read _>>=_ row zeroBits readWhole many targets blockCount head content reservedContent wholeBlock block keptIn passedIn blocksAfter «ST2094-10_data»

@@ -21,8 +21,8 @@ use Rattle.tree.proofs.Reasons.{reason-is-true, true-reason-is-given}
 use Rattle.record.specs.declared.Block.{Block}
 use Rattle.record.specs.declared.Block.the-variants.{Nothing, Level1, Level2, Level5}
 use Rattle.record.specs.Name.{Name, «app_identifier», «app_version», «metadata_refresh_flag», «num_ext_blocks», «dm_alignment_zero_bit», «ext_block_length», «ext_block_level», «ext_dm_alignment_zero_bit», «end»}
-use Rattle.record.specs.Level.{known, padding, fieldsOf}
-use Rattle.valid.specs.Valid.{among}
+use Rattle.record.specs.Level.{level, known, levelOf, padding, fieldsOf}
+use Rattle.valid.specs.Valid.{among, validBlock}
 use Rattle.syntax.specs.Data.{mostAnnounced, announced, blockCount, head, Item, kept, passed, keptIn, Data, blockOf, lengthRule, averageRule, orderRules, surplusRule, targetRule, mayFollowRules, content, reservedBits, reservedContent, wholeBlock, block, blocksAfter, firstAlignment, «ST2094-10_data», bareData}
 use Rattle.syntax.specs.Element.{blockElements, itemElements, itemsElements, itemFits}
 use Rattle.syntax.specs.Reason.{About, identifier, version, count, alignmentBit, blockAlignmentBit, otherLength, average, surplus, target, Speaks, Named, Reason, ruleNumbers, dataNumbers}
@@ -283,7 +283,13 @@ listed earlier theirs r (alignmentBit at z) = refl
 listed earlier theirs r (blockAlignmentBit at z) = refl
 listed earlier theirs r (otherLength at n l) = refl
 listed earlier theirs r (average at min max avg) = refl
-listed earlier theirs r (surplus at b opening is e f) = refl
+listed earlier theirs r (surplus at b opening is e f) = of-level b f
+  where
+    of-level : (b : Block) → validBlock b ≡ true → among (level (levelOf b) .surplus) ruleNumbers ≡ true
+    of-level Nothing f = let z : _≡_ {A = ℕ} 0 1 = cc in clash z
+    of-level (Level1 min max avg) f = refl
+    of-level (Level2 t s o p c g m) f = refl
+    of-level (Level5 l r t b) f = refl
 listed earlier theirs r (target at t s o p c g m opening is e f h) = refl
 
 one-more : (a b c d : Bool) → d ≡ true → a || (b || (c || d)) ≡ true

@@ -7,7 +7,7 @@ use native.Mathlib.Omega.{arith}
 use borrow.Author.Tests.{le-leb}
 use lib.Dec.{eqb, leb, ltb}
 use lib.IntN.{pos}
-use Rattle.refusals.specs.Refusals.{notInOrder, repeated}
+use Rattle.refusals.specs.Refusals.{notInOrder}
 use Rattle.tree.specs.Reading.{Rule, meets, breaks, no}
 use Rattle.tree.specs.Syntax.{Syntax, _>>=_, must, read}
 use Rattle.tree.proofs.Truth.{clash, range-of-one}
@@ -17,7 +17,7 @@ use Rattle.record.specs.declared.Block.the-variants.{Nothing, Level1, Level2, L
 use Rattle.record.specs.Name.{Name}
 use Rattle.record.specs.Level.{level, known}
 use Rattle.record.specs.Blocks.{inOrder}
-use Rattle.valid.specs.Valid.{isBlock, many, targets, among, mayFollow}
+use Rattle.valid.specs.Valid.{isBlock, many, targets, among, mayFollow, repeatNumber}
 use Rattle.syntax.specs.Data.{mostReserved, kept, lengthRule, averageRule, orderRules, surplusRule, targetRule, mayFollowRules}
 use Rattle.syntax.proofs.Items.{room-met, target-met}
 
@@ -41,13 +41,13 @@ module _ {B : Type 0} (g : Unit {0} → Syntax Name B) (at : ℕ) (s : List Bool
   read-in-order start (Level2 t q o p c w m) h = refl
   read-in-order start (Level5 l r t b) h = refl
 
-  pub read-not-in-order : (start : ℕ) (b : Block) → inOrder b ≡ false → (r : Rule Name) × (r .number ≡ notInOrder) × (read (orderRules start (kept b) >>= g) at s ≡ no (breaks r))
+  pub read-not-in-order : (start : ℕ) (b : Block) → inOrder b ≡ false → (r : Rule Name) × (r .number ≡ notInOrder) × (r .offset ≡ start) × (read (orderRules start (kept b) >>= g) at s ≡ no (breaks r))
   read-not-in-order start Nothing h = let z : _≡_ {A = ℕ} 0 1 = cc in clash z
-  read-not-in-order start (Level1 min max avg) h = (averageRule start min max avg, refl, by-test (averageRule start min max avg) false h)
+  read-not-in-order start (Level1 min max avg) h = (averageRule start min max avg, refl, refl, by-test (averageRule start min max avg) false h)
   read-not-in-order start (Level2 t q o p c w m) h = let z : _≡_ {A = ℕ} 0 1 = cc in clash z
   read-not-in-order start (Level5 l r t b) h = let z : _≡_ {A = ℕ} 0 1 = cc in clash z
 
--- 11
+-- 17 to 19, then 11
 module _ {B : Type 0} (g : Unit {0} → Syntax Name B) (at : ℕ) (s : List Bool) (start : ℕ) (before : List Block) where
   abbrev spare : ℕ → Bool
   spare l = ltb (many l before) (level l .most)
@@ -79,23 +79,26 @@ module _ {B : Type 0} (g : Unit {0} → Syntax Name B) (at : ℕ) (s : List Bool
       one true q k = by-test g at s (surplusRule start before 5) true (room-met start before (Level5 l r t b) f ∙ q)
       one false q k = let z : _≡_ {A = ℕ} 0 1 = cc in clash z
 
-  pub read-may-not-follow : (b : Block) → isBlock b ≡ true → mayFollow before b ≡ false → (r : Rule Name) × (r .number ≡ repeated) × (read (mayFollowRules start before (kept b) >>= g) at s ≡ no (breaks r))
+  -- of one that may not, the rule that is broken: its number is that of the repeat, and its offset the block's
+  abbrev Repeats : Block → Type 0
+  Repeats b = (r : Rule Name) × (r .number ≡ repeatNumber before b) × (r .offset ≡ start) × (read (mayFollowRules start before (kept b) >>= g) at s ≡ no (breaks r))
+
+  pub read-may-not-follow : (b : Block) → isBlock b ≡ true → mayFollow before b ≡ false → Repeats b
   unfolding _>>=_ mayFollow
   read-may-not-follow Nothing f h = let z : _≡_ {A = ℕ} 0 1 = cc in clash z
   read-may-not-follow (Level1 min max avg) f h = one (spare 1) refl h
     where
-      one : (a : Bool) → spare 1 ≡ a → a && true ≡ false → (r : Rule Name) × (r .number ≡ repeated) × (read (must (surplusRule start before 1) >>= g) at s ≡ no (breaks r))
+      one : (a : Bool) → spare 1 ≡ a → a && true ≡ false → Repeats (Level1 min max avg)
       one true q k = let z : _≡_ {A = ℕ} 0 1 = cc in clash z
-      one false q k = (surplusRule start before 1, refl, by-test g at s (surplusRule start before 1) false (room-met start before (Level1 min max avg) f ∙ q))
+      one false q k = (surplusRule start before 1, rw q, refl, by-test g at s (surplusRule start before 1) false (room-met start before (Level1 min max avg) f ∙ q))
   read-may-not-follow (Level2 t y o p c w m) f h = two (spare 2) (not (among t (targets before))) refl refl h
     where
-      two : (a b : Bool) → spare 2 ≡ a → not (among t (targets before)) ≡ b → a && b ≡ false
-          → (r : Rule Name) × (r .number ≡ repeated) × (read (must (surplusRule start before 2) >>= λ u. must (targetRule start before t) >>= g) at s ≡ no (breaks r))
+      two : (a b : Bool) → spare 2 ≡ a → not (among t (targets before)) ≡ b → a && b ≡ false → Repeats (Level2 t y o p c w m)
       two true true q r k = let z : _≡_ {A = ℕ} 0 1 = cc in clash z
-      two true false q r k = (targetRule start before t, refl, both-rules t true false (room-met start before (Level2 t y o p c w m) f ∙ q) (target-met start before t ∙ r))
-      two false b q r k = (surplusRule start before 2, refl, both-rules t false b (room-met start before (Level2 t y o p c w m) f ∙ q) (target-met start before t ∙ r))
+      two true false q r k = (targetRule start before t, rw q, refl, both-rules t true false (room-met start before (Level2 t y o p c w m) f ∙ q) (target-met start before t ∙ r))
+      two false b q r k = (surplusRule start before 2, rw q, refl, both-rules t false b (room-met start before (Level2 t y o p c w m) f ∙ q) (target-met start before t ∙ r))
   read-may-not-follow (Level5 l r t b) f h = one (spare 5) refl h
     where
-      one : (a : Bool) → spare 5 ≡ a → a && true ≡ false → (r : Rule Name) × (r .number ≡ repeated) × (read (must (surplusRule start before 5) >>= g) at s ≡ no (breaks r))
+      one : (a : Bool) → spare 5 ≡ a → a && true ≡ false → Repeats (Level5 l r t b)
       one true q k = let z : _≡_ {A = ℕ} 0 1 = cc in clash z
-      one false q k = (surplusRule start before 5, refl, by-test g at s (surplusRule start before 5) false (room-met start before (Level5 l r t b) f ∙ q))
+      one false q k = (surplusRule start before 5, rw q, refl, by-test g at s (surplusRule start before 5) false (room-met start before (Level5 l r t b) f ∙ q))

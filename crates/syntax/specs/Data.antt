@@ -5,7 +5,7 @@ use mathlib.Core.Bool.{Bool, true, false, cond}
 use lib.Dec.{eqb, ltb}
 use lib.ListN.{getD, replicate}
 use lib.IntN.{ℤ, pos}
-use Rattle.refusals.specs.Refusals.{wrongIdentifier, wrongVersion, tooManyBlocks, wrongLength, notInOrder, repeated}
+use Rattle.refusals.specs.Refusals.{wrongIdentifier, wrongVersion, tooManyBlocks, wrongLength, notInOrder, repeatedTarget}
 use Rattle.tree.specs.Reading.{Allowed, between, otherThan, Rule, Out}
 use Rattle.tree.specs.Coding.{unsigned, variable, fixed, natural}
 use Rattle.tree.specs.Syntax.{Syntax, done, position, must, any, ranged, Field, row, oneBit, zeroBits, alignment, readWhole, _>>_, _>>=_}
@@ -90,13 +90,13 @@ isFull before l = cond (ltb (many l before) (level l .most)) [] (pos l ∷ [])
 abbrev pub full : List Block → List ℤ
 full before = isFull before 1 ++ (isFull before 2 ++ isFull before 5)
 
--- 11: a block that begins at `start` is no second one of level 1 or 5 and no 17th of level 2
+-- 17, 18, 19: a block that begins at `start` is no second one of level 1 or 5 and no 17th of level 2
 abbrev pub surplusRule : ℕ → List Block → ℕ → Rule Name
-surplusRule start before l = record { number = repeated; offset = start; element = «ext_block_level»; value = pos l; allowed = otherThan (full before) }
+surplusRule start before l = record { number = level l .surplus; offset = start; element = «ext_block_level»; value = pos l; allowed = otherThan (full before) }
 
 -- 11: its target_max_PQ is not already met
 abbrev pub targetRule : ℕ → List Block → ℕ → Rule Name
-targetRule start before t = record { number = repeated; offset = start; element = «target_max_PQ»; value = pos t; allowed = otherThan (map pos (targets before)) }
+targetRule start before t = record { number = repeatedTarget; offset = start; element = «target_max_PQ»; value = pos t; allowed = otherThan (map pos (targets before)) }
 
 -- the rules for a block behind the known ones before it; a reserved one may stand anywhere
 abbrev pub mayFollowRules : ℕ → List Block → Item → Syntax Name Unit

@@ -5,7 +5,7 @@ use mathlib.Core.List.{List, [], _∷_, _++_}
 use mathlib.Core.Bool.{Bool, true}
 use mathlib.Core.Logic.{_⊎_}
 use lib.IntN.{ℤ, pos}
-use Rattle.refusals.specs.Refusals.{pastEnd, tooManyZeros, wrapperDiffers, wrongIdentifier, wrongVersion, tooManyBlocks, notZero, wrongLength, notInOrder, repeated, bytesRemain}
+use Rattle.refusals.specs.Refusals.{pastEnd, tooManyZeros, wrapperDiffers, wrongIdentifier, wrongVersion, tooManyBlocks, notZero, wrongLength, notInOrder, repeatedTarget, secondLevel1, secondLevel5, seventeenthLevel2, bytesRemain}
 use Rattle.tree.specs.Bits.{bitsOf}
 use Rattle.tree.specs.Reading.{Rule, meets, Fault, no}
 use Rattle.tree.specs.Coding.{unsigned, variable, fixed, natural}
@@ -34,7 +34,7 @@ pub data About (earlier : List (Element Name)) : List (Element Name) → Rule Na
   otherLength : (at : ℕ) (n l : ℤ) → About earlier (element «ext_block_length» variable n ∷ element «ext_block_level» (fixed (unsigned 8)) l ∷ []) (lengthRule at n (natural l))
   -- 10: in a whole block of level 1, avg_PQ is not from min_PQ to max_PQ
   average : (at min max avg : ℕ) → About earlier (blockElements (Level1 min max avg)) (averageRule at min max avg)
-  -- 11: a whole block, fine in itself, of a level of which the blocks before it are all that may come
+  -- 17, 18, 19: a whole block, fine in itself, of a level of which the blocks before it are all that may come
   surplus : (at : ℕ) (b : Block) (opening : List (Element Name)) (is : List Item) → earlier ≡ opening ++ itemsElements is → validBlock b ≡ true
       → About earlier (blockElements b) (surplusRule at (keptIn is) (levelOf b))
   -- 11: a whole block of level 2, fine in itself and not one too many, whose target_max_PQ one of the blocks before it has
@@ -65,7 +65,7 @@ WrappedReason s f = Means (wrapperTable «wrapper» wrapperBytes) 0 s (no f) ⊎
 
 -- the numbers of the rules, and all that data can be refused with
 abbrev pub ruleNumbers : List ℕ
-ruleNumbers = wrongIdentifier ∷ wrongVersion ∷ tooManyBlocks ∷ notZero ∷ wrongLength ∷ notInOrder ∷ repeated ∷ []
+ruleNumbers = wrongIdentifier ∷ wrongVersion ∷ tooManyBlocks ∷ notZero ∷ wrongLength ∷ notInOrder ∷ repeatedTarget ∷ secondLevel1 ∷ secondLevel5 ∷ seventeenthLevel2 ∷ []
 
 abbrev pub dataNumbers : List ℕ
 dataNumbers = pastEnd ∷ tooManyZeros ∷ bytesRemain ∷ ruleNumbers

@@ -5,7 +5,6 @@ use plan::Layout;
 use plan::Scanned;
 use plan::Sought;
 use record::Record;
-use refusals::Refusal;
 ghost use mathlib.Core.Path.{_≡_};
 ghost use Prim.Native.Nat.{_<_};
 ghost use lib.ListN.{length};
@@ -176,14 +175,14 @@ fn prepare(point: Point, entries: usize) -> Placing
     let shown = point.record;
     if !valid::is_valid(shown) {
         return Placing {
-            result: Refusal::NOT_VALID,
+            result: refusals::NOT_VALID,
             count: 0,
             point,
         };
     }
     if entries != plan::POINTS {
         return Placing {
-            result: Refusal::UNFIT_OUTPUT,
+            result: refusals::UNFIT_OUTPUT,
             count: 0,
             point,
         };

@@ -15,6 +15,7 @@ pub mod Spelling
 pub mod Wrapper
 pub mod Accepted
 pub mod Reasons
+pub mod Names
 pub mod Widths
 pub mod Stands
 pub mod Edges

@@ -1,4 +1,5 @@
--- Of which elements a broken rule speaks, by a format's own table of reasons; and what holds of each element that a table can await.
+-- Of which elements a broken rule speaks, by a format's own table of reasons; what holds of each element that a table can await, and of the
+-- name that a fault has.
 use Prim.Native.Nat.{ℕ, _+_}
 use mathlib.Core.Path.{_≡_}
 use mathlib.Core.List.{List, _++_}
@@ -24,6 +25,13 @@ Awaits P (done a) = Unit {0}
 Awaits P (reads n d f) = P n d × ((z : ℤ) → Awaits P (f z))
 Awaits P (checks r p) = Awaits P p
 Awaits P (here f) = (at : ℕ) → Awaits P (f at)
+
+-- each element of a table, and each that a rule of it is about, has a name as P says
+unfoldable pub Names : {N A : Type 0} → (N → Type 0) → Syntax N A → Type 0
+Names P (done a) = Unit {0}
+Names P (reads n d f) = P n × ((z : ℤ) → Names P (f z))
+Names P (checks r p) = P (r .element) × Names P p
+Names P (here f) = (at : ℕ) → Names P (f at)
 
 -- a descriptor of a fixed width, and a table of such elements only
 abbrev pub isFixed : Descriptor → Bool

@@ -2,9 +2,10 @@
 use Prim.Native.Nat.{ℕ, _+_, _≤_}
 use mathlib.Core.Path.{_≡_}
 use mathlib.Core.List.{List, [], _∷_, _++_, map}
-use mathlib.Core.Bool.{Bool, true, false, not, _&&_, _||_}
+use mathlib.Core.Bool.{Bool, true, false, cond, not, _&&_, _||_}
 use lib.Dec.{leb, ltb, eqb}
 use lib.ListN.{length, set}
+use Rattle.refusals.specs.Refusals.{repeatedTarget}
 use Rattle.tree.specs.Bits.{bit}
 use Rattle.record.specs.declared.Block.{Block}
 use Rattle.record.specs.declared.Block.the-variants.{Nothing, Level1, Level2, Level5}
@@ -75,9 +76,17 @@ newTarget before (Level1 min max avg) = true
 newTarget before (Level2 t s o p c g m) = not (among t (targets before))
 newTarget before (Level5 l r t b) = true
 
--- a block that may stand behind those before it: none of the repeats that refusal 11 names
+-- there may be one more of its level
+abbrev pub notTooMany : List Block → Block → Bool
+notTooMany before b = ltb (many (levelOf b) before) (level (levelOf b) .most)
+
+-- a block that may stand behind those before it: none of the repeats that refusals 11 and 17 to 19 name
 unfoldable pub mayFollow : List Block → Block → Bool
-mayFollow before b = ltb (many (levelOf b) before) (level (levelOf b) .most) && newTarget before b
+mayFollow before b = notTooMany before b && newTarget before b
+
+-- 02, e: of one that may not, which repeat it is: one too many of its level, or else a target_max_PQ already met
+abbrev pub repeatNumber : List Block → Block → ℕ
+repeatNumber before b = cond (notTooMany before b) repeatedTarget (level (levelOf b) .surplus)
 
 -- a block that meets the clauses for one block
 abbrev pub validBlock : Block → Bool

@@ -1,5 +1,5 @@
 -- Laws of the wrapper's bytes: compared one by one, and written.
-use Prim.Native.Nat.{ℕ, zero, suc, _+_, _-_, _*_, _<_, _≤_}
+use Prim.Native.Nat.{ℕ, zero, suc, _+_, _-_, _*_, _/_, _<_, _≤_}
 use mathlib.Core.Path.{_≡_, refl, ap, sym, _∙_}
 use mathlib.Core.List.{List, [], _∷_, _++_, append-nil}
 use mathlib.Core.Bool.{Bool, true, false, cond, _&&_}
@@ -11,8 +11,7 @@ use lib.IntN.{pos}
 use lib.ListN.{length, getD, take, drop, set, drop-of-length-le, length-append, length-drop, take-append-drop}
 use lib.Seq.{drop-cons, drop-drop, drop-at, take-all, length-take-le}
 use borrow.Rule.Slice.PartMut.{putMid}
-use Rattle.refusals.specs.Refusals.{refusal, pastEnd, wrapperDiffers, unfitOutput, notValid}
-use Rattle.refusals.specs.declared.Refusal.{Refusal}
+use Rattle.refusals.specs.Refusals.{pastEnd, wrapperDiffers, unfitOutput, notValid}
 use Rattle.tree.specs.Bits.{bitsOf, Bytes}
 use Rattle.tree.specs.Reading.{Fault, cutOff, numberIn, breaks, Out, ok, no, widened}
 use Rattle.tree.specs.Coding.{unsigned, fixed}
@@ -29,7 +28,8 @@ use Rattle.output.specs.declared.Written.{Written}
 use Rattle.output.specs.Output.{written, fits, writtenAs, bufferAs}
 use Rattle.record.specs.Name.{Name, «wrapper»}
 use Rattle.syntax.specs.Data.{bareData}
-use Rattle.syntax.specs.Wrapper.{wrapperBytes, wrappedData}
+use Rattle.syntax.specs.Wrapper.{wrapperBytes, wrappedData, toldAt}
+use Rattle.syntax.proofs.Named.{in-the-wrapper}
 use Rattle.reader.specs.Reading.{readingOf, refusedReading}
 use Rattle.wrapper.specs.declared.Wrapper.the-variants.{There, Refused}
 use Rattle.wrapper.specs.Wrapper.{beginsWith, wrapperOf, withoutRoom}
@@ -52,17 +52,21 @@ module _ (s : List ℕ) (i : ℕ) (h : i < 8) where
   expected : drop i wrapperBytes ≡ byte ∷ drop (suc i) wrapperBytes
   expected = drop-cons wrapperBytes i 0 h
 
-  pub missing : length s ≤ i → Refused (refusal pastEnd) ≡ wrapperOf (fromByte s i)
+  -- a byte's offset
+  in-bytes : 8 * i / 8 ≡ i
+  in-bytes = omega arith
+
+  pub missing : length s ≤ i → Refused pastEnd i ≡ wrapperOf (fromByte s i)
   missing l =
       let e : fromByte s i ≡ no (cutOff (8 * i) «wrapper») = rw (expected, drop-of-length-le s l) (wrapper-end «wrapper» byte (drop (suc i) wrapperBytes) (8 * i)) in
-      sym (ap wrapperOf e)
+      sym (ap wrapperOf e ∙ ap (Refused pastEnd) in-bytes)
 
   module _ (l : i < length s) (b : getD s i 0 < 256) where
     compared : fromByte s i ≡ cond (eqb (getD s i 0) byte) (widened 8 (read (wrapperTable «wrapper» (drop (suc i) wrapperBytes)) (8 * i + 8) (bitsOf (drop (suc i) s)))) (no (breaks (rangeRule «wrapper» wrapperDiffers (pos byte) (pos byte) (8 * i) (pos (getD s i 0)))))
     compared = rw (expected, drop-cons s i 0 l) (wrapper-byte «wrapper» byte (drop (suc i) wrapperBytes) (8 * i) (getD s i 0) (drop (suc i) s) b)
 
-    pub differs : (getD s i 0 ≡ byte → ⊥) → Refused (refusal wrapperDiffers) ≡ wrapperOf (fromByte s i)
-    differs e = sym (ap wrapperOf compared ∙ rw (ne-eqb (getD s i 0) byte e) refl)
+    pub differs : (getD s i 0 ≡ byte → ⊥) → Refused wrapperDiffers i ≡ wrapperOf (fromByte s i)
+    differs e = sym (ap wrapperOf compared ∙ rw (ne-eqb (getD s i 0) byte e) (ap (Refused wrapperDiffers) in-bytes))
 
     pub agrees : getD s i 0 ≡ byte → wrapperOf (fromByte s i) ≡ wrapperOf (fromByte s (i + 1))
     agrees e =
@@ -78,16 +82,17 @@ pub is-there : (o : Out Name (Unit {0})) → There ≡ wrapperOf o → (n : ℕ)
 is-there (ok t n) e = (n, refl)
 is-there (no f) e = let z : _≡_ {A = ℕ} 0 1 = cc in clash z
 
-is-refused : (o : Out Name (Unit {0})) (r : Refusal) → Refused r ≡ wrapperOf o → (f : Fault Name) × (o ≡ no f) × (r ≡ refusal (numberIn f))
-is-refused (ok t n) r e = let z : _≡_ {A = ℕ} 0 1 = cc in clash z
-is-refused (no f) r e = (f, refl, cc)
+is-refused : (o : Out Name (Unit {0})) (k at : ℕ) → Refused k at ≡ wrapperOf o → (f : Fault Name) × (o ≡ no f) × (k ≡ numberIn f) × (at ≡ toldAt f)
+is-refused (ok t n) k at e = let z : _≡_ {A = ℕ} 0 1 = cc in clash z
+is-refused (no f) k at e = (f, refl, cc, cc)
 
 -- a refusal of the wrapper is one of the whole
-pub wrapped-no : (s : List Bool) (r : Refusal) → Refused r ≡ wrapperOf (read (wrapperTable «wrapper» wrapperBytes) 0 s) → refusedReading (r .number) ≡ readingOf (wrappedData s)
-wrapped-no s r e = go (is-refused (read (wrapperTable «wrapper» wrapperBytes) 0 s) r e)
+pub wrapped-no : (s : List Bool) (k at : ℕ) → Refused k at ≡ wrapperOf (read (wrapperTable «wrapper» wrapperBytes) 0 s) → refusedReading k at true ≡ readingOf (wrappedData s)
+wrapped-no s k at e = go (is-refused (read (wrapperTable «wrapper» wrapperBytes) 0 s) k at e)
   where
-    go : (f : Fault Name) × (read (wrapperTable «wrapper» wrapperBytes) 0 s ≡ no f) × (r ≡ refusal (numberIn f)) → refusedReading (r .number) ≡ readingOf (wrappedData s)
-    go (f, q, w) = ap (λ (x : Refusal). refusedReading (x .number)) w ∙ sym (rw q refl)
+    go : (f : Fault Name) × (read (wrapperTable «wrapper» wrapperBytes) 0 s ≡ no f) × (k ≡ numberIn f) × (at ≡ toldAt f) → refusedReading k at true ≡ readingOf (wrappedData s)
+    go (f, q, v, w) =
+        ap (λ (n : ℕ). refusedReading n at true) v ∙ ap (λ (n : ℕ). refusedReading (numberIn f) n true) w ∙ ap (refusedReading (numberIn f) (toldAt f)) (sym (in-the-wrapper s f q)) ∙ sym (rw q refl)
 
 -- the wrapper's bytes have eight bits each
 wrapper-width : (ws : List ℕ) (at : ℕ) (es : List (Element Name)) → Follow (wrapperTable «wrapper» ws) at es (complete tt) → sumOfWidths es ≡ 8 * length ws
@@ -138,8 +143,8 @@ module _ (s : List ℕ) (h : Bytes s) where
   pub begins-there : There ≡ wrapperOf (read (wrapperTable «wrapper» wrapperBytes) 0 (bitsOf s)) → true ≡ beginsWith wrapperBytes s
   begins-there e = sym (ap isMet (is-there (read (wrapperTable «wrapper» wrapperBytes) 0 (bitsOf s)) e .1)) ∙ met-begins wrapperBytes 0 s h
 
-  pub begins-not : (r : Refusal) → Refused r ≡ wrapperOf (read (wrapperTable «wrapper» wrapperBytes) 0 (bitsOf s)) → false ≡ beginsWith wrapperBytes s
-  begins-not r e = sym (ap isMet (is-refused (read (wrapperTable «wrapper» wrapperBytes) 0 (bitsOf s)) r e .1)) ∙ met-begins wrapperBytes 0 s h
+  pub begins-not : (k at : ℕ) → Refused k at ≡ wrapperOf (read (wrapperTable «wrapper» wrapperBytes) 0 (bitsOf s)) → false ≡ beginsWith wrapperBytes s
+  begins-not k at e = sym (ap isMet (is-refused (read (wrapperTable «wrapper» wrapperBytes) 0 (bitsOf s)) k at e .1)) ∙ met-begins wrapperBytes 0 s h
 
 -- ---- writing
 

@@ -4,8 +4,6 @@ use denote.Ref.{now}
 use Rattle.bits.proofs.OneAnswer.{OneResult, OneResultAndBuffer}
 use Rattle.wrapper.proofs.has_wrapper.Kinds as has-wrapper
 use Rattle.wrapper.proofs.has_wrapper.Reads as has-wrapper-contract
-use Rattle.wrapper.proofs.refused.Kinds as refused
-use Rattle.wrapper.proofs.refused.Reads as refused-contract
 use Rattle.wrapper.proofs.read_wrapped.Kinds as read-wrapped
 use Rattle.wrapper.proofs.read_wrapped.Reads as read-wrapped-contract
 use Rattle.wrapper.proofs.most_bytes.Kinds as most-bytes
@@ -19,9 +17,6 @@ use Rattle.wrapper.proofs.write_wrapped.Reads as write-wrapped-contract
 
 pub has-wrapper-one : OneResult has-wrapper.ps has-wrapper.r has-wrapper-contract.Post
 has-wrapper-one κs a x y s t e f = e ∙ sym f
-
-pub refused-one : OneResult refused.ps refused.r refused-contract.Post
-refused-one κs a x y s t e f = e ∙ sym f
 
 pub without-room-one : OneResult without-room.ps without-room.r without-room-contract.Post
 without-room-one κs a x y s t e f = e ∙ sym f

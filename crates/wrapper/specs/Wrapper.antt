@@ -3,7 +3,7 @@ use Prim.Native.Nat.{ℕ}
 use mathlib.Core.List.{List, [], _∷_}
 use mathlib.Core.Bool.{Bool, true, false, cond, _&&_}
 use lib.Dec.{eqb}
-use Rattle.refusals.specs.Refusals.{refusal, unfitOutput, notValid}
+use Rattle.refusals.specs.Refusals.{unfitOutput, notValid}
 use Rattle.tree.specs.Bits.{bitsOf}
 use Rattle.tree.specs.Reading.{numberIn, Out, ok, no}
 use Rattle.output.specs.declared.Written.{Written}
@@ -11,7 +11,7 @@ use Rattle.output.specs.Output.{written, writtenAs, bufferAs}
 use Rattle.record.specs.declared.Record.{Record}
 use Rattle.record.specs.Name.{Name}
 use Rattle.valid.specs.Valid.{valid}
-use Rattle.syntax.specs.Wrapper.{wrappedData, wrappedPayload}
+use Rattle.syntax.specs.Wrapper.{wrappedData, toldAt, wrappedPayload}
 use Rattle.reader.specs.declared.Reading.{Reading}
 use Rattle.reader.specs.Reading.{readingOf}
 use Rattle.wrapper.specs.declared.Wrapper.{Wrapper}
@@ -34,10 +34,10 @@ writeWrapped r out = writtenAs (wrappedPayload r) (valid r) out
 abbrev pub wrappedBuffer : Record → List ℕ → List ℕ
 wrappedBuffer r out = bufferAs (wrappedPayload r) (valid r) out
 
--- the wrapper's bytes are there, or why not
+-- the wrapper's bytes are there, or why not, told by the byte's offset
 abbrev pub wrapperOf : Out Name (Unit {0}) → Wrapper
 wrapperOf (ok t n) = There
-wrapperOf (no f) = Refused (refusal (numberIn f))
+wrapperOf (no f) = Refused (numberIn f) (toldAt f)
 
 -- what a write answers where not even the wrapper has room
 abbrev pub withoutRoom : Bool → Written

@@ -2,8 +2,8 @@
 use output::Written;
 use reader::Reading;
 use record::Record;
-use refusals::Refusal;
 ghost use mathlib.Core.Path.{_≡_};
+ghost use mathlib.Core.Bool.{true};
 ghost use mathlib.Core.List.{_++_};
 ghost use Prim.Native.Nat.{_≤_, _<_};
 ghost use lib.ListN.{length, getD, drop};
@@ -23,7 +23,7 @@ const WRAPPER_BYTES: usize = 8;
 // Whether the wrapper's bytes are there, or why not.
 enum Wrapper {
     There,
-    Refused { why: Refusal },
+    Refused { number: u8, offset: u32 },
 }
 
 // The wrapper's bytes: country, provider, user identifier, type code.
@@ -43,7 +43,7 @@ fn wrapper_byte(i: usize) -> u8
     }
 }
 
-// The wrapper's bytes are compared from left to right.
+// The wrapper's bytes are compared from left to right. 02, e: a fault is told by its byte's offset, counted from the first.
 fn check_wrapper(input: &[u8]) -> Wrapper
     ensures { λ r. ⌜ r ≡ wrapperOf (read (wrapperTable «wrapper» wrapperBytes) 0 (bitsOf (now (input .entry)))) ⌝ }
 {
@@ -51,16 +51,14 @@ fn check_wrapper(input: &[u8]) -> Wrapper
     while i < WRAPPER_BYTES {
         if input.len() <= i {
             return Wrapper::Refused {
-                why: Refusal {
-                    number: Refusal::PAST_END,
-                },
+                number: refusals::PAST_END,
+                offset: i as u32,
             };
         }
         if input[i] != wrapper_byte(i) {
             return Wrapper::Refused {
-                why: Refusal {
-                    number: Refusal::WRAPPER_DIFFERS,
-                },
+                number: refusals::WRAPPER_DIFFERS,
+                offset: i as u32,
             };
         }
         i += 1;
@@ -78,15 +76,17 @@ pub fn has_wrapper(input: &[u8]) -> bool
     }
 }
 
-// 01, The record: beside a refusal the record is empty.
-pub fn refused(why: Refusal) -> Reading
-    ensures { λ r. ⌜ r ≡ refusedReading (why .number) ⌝ }
+// 01, The record: beside a refusal the record is empty. 02, e: a fault in the wrapper is marked.
+fn refused(number: u8, offset: u32) -> Reading
+    ensures { λ r. ⌜ r ≡ refusedReading (number) (offset) true ⌝ }
 {
     let record = Record::empty();
     Reading {
-        result: why.number,
-        bits: 0,
+        result: number,
         skipped: 0,
+        in_wrapper: true,
+        bits: 0,
+        offset: offset,
         record,
     }
 }
@@ -96,7 +96,7 @@ pub fn read_wrapped(input: &[u8]) -> Reading
     ensures { λ r. ⌜ r ≡ readWrapped (now (input .entry)) ⌝ }
 {
     match check_wrapper(input) {
-        Wrapper::Refused { why } => refused(why),
+        Wrapper::Refused { number, offset } => refused(number, offset),
         Wrapper::There => reader::read_data(&input[8..]),
     }
 }
@@ -122,12 +122,12 @@ pub fn without_room(good: bool) -> Written
 {
     if good {
         return Written {
-            result: Refusal::UNFIT_OUTPUT,
+            result: refusals::UNFIT_OUTPUT,
             bytes: 0,
         };
     }
     Written {
-        result: Refusal::NOT_VALID,
+        result: refusals::NOT_VALID,
         bytes: 0,
     }
 }

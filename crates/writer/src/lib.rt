@@ -3,7 +3,6 @@ use output::Written;
 use pen::Pen;
 use record::Block;
 use record::Record;
-use refusals::Refusal;
 ghost use mathlib.Core.Path.{_≡_};
 ghost use mathlib.Core.Bool.{true, false};
 ghost use mathlib.Core.List.{_++_};
@@ -268,7 +267,7 @@ pub fn write_data(r: Record, out: &mut [u8]) -> Written
         let n = bytes_needed(r);
         if out.len() < n {
             return Written {
-                result: Refusal::UNFIT_OUTPUT,
+                result: refusals::UNFIT_OUTPUT,
                 bytes: 0,
             };
         }
@@ -279,7 +278,7 @@ pub fn write_data(r: Record, out: &mut [u8]) -> Written
         }
     } else {
         Written {
-            result: Refusal::NOT_VALID,
+            result: refusals::NOT_VALID,
             bytes: 0,
         }
     }

@@ -16,8 +16,8 @@ use Rattle.bits.proofs.read_ue.Tie as tie
 read-lead-requires : tie.Need-read-lead-requires
 read-lead-requires c κs = search needs
 
-enum-known-why : tie.Need-enum-known-why
-enum-known-why c = search needs
+enum-known-number : tie.Need-enum-known-number
+enum-known-number c = search needs
 
 enum-known-lead : tie.Need-enum-known-lead
 enum-known-lead c = search needs
@@ -52,10 +52,10 @@ read-code-requires : tie.Need-read-code-requires
 read-code-requires c κs =
     let d = c .before in
     let l = led (d .before) in
-    (l .0, l .2, l .3, d .zeros-before .ensures .0, omega (arith, l .4), one d, omega arith)
+    (l .0, l .2, l .3, d .zeros-before .ensures .0, omega (arith, l .4), one d, omega arith, omega arith)
 
 returns : tie.Need-returns
-returns c = rw (c .before .why .given .1) at (c .before .before .before .read-lead .ensures)
+returns c = rw (c .before .number .given .1) at (c .before .before .before .read-lead .ensures)
 
 returns-2 : tie.Need-returns-2
 returns-2 c =
@@ -76,7 +76,7 @@ read-ue-spec =
     tie.close
     (tie.spec
     read-lead-requires
-    enum-known-why
+    enum-known-number
     enum-known-lead
     zeros-before-requires
     refuse-requires

@@ -1,12 +1,14 @@
 -- `bits::read_zeros` meets its contract: behind zero bits, the answer for those that are left is the answer for all.
-use Prim.Native.Nat.{_+_, _/_}
+use Prim.Native.Nat.{ℕ, _+_, _-_, _/_, _^_, _<_}
 use mathlib.Core.Path.{_≡_, refl, _∙_, sym, ap}
 use native.Mathlib.Omega.{arith}
+use native.Mathlib.Nat.{add-zero, zero-div, pos-of-ne-zero}
 use lib.ListN.{drop}
 use Rattle.tree.specs.Bits.{bitsOf, valueFrom}
 use Rattle.tree.specs.Syntax.{read, zeroBits}
 use Rattle.tree.proofs.Bits.{length-rest}
-use Rattle.bits.specs.Answer.{spanOf}
+use Rattle.refusals.specs.Refusals.{pastEnd}
+use Rattle.bits.specs.Answer.{refusedNumber, spanOf}
 use Rattle.bits.proofs.Reading.{zeros-end}
 use Rattle.bits.proofs.Zeros.{Checked, checked-none, checked-broken, checked-end, checked-more, checked-last-broken, checked-all}
 use borrow.Author.Needs.{needs}
@@ -24,13 +26,14 @@ unfolding read zeroBits
 returns c = let n : c .before .before .args .n ≡ 0 = omega arith in rw n
 
 refuse-requires : tie.Need-refuse-requires Inv-loop μ-loop
-refuse-requires c κs = search needs
+refuse-requires c κs = omega arith
 
 returns-2 : tie.Need-returns-2 Inv-loop μ-loop
 unfolding valueFrom
 returns-2 c =
     let a = c .before .before .before .before .args in
-    c .refuse .ensures ∙ sym (ap spanOf (zeros-end (a .n) (a .at) (drop (a .at) (bitsOf (a .s .now))) 0 (omega (arith, length-rest (a .s .now) (a .at))) (omega arith) refl))
+    c .refuse .ensures ∙ ap (refusedNumber pastEnd) (sym (add-zero (a .at)))
+    ∙ sym (ap spanOf (zeros-end (a .n) (a .at) (drop (a .at) (bitsOf (a .s .now))) 0 (omega (arith, length-rest (a .s .now) (a .at))) (omega arith) refl))
 
 sub-have : tie.Need-sub-have Inv-loop μ-loop
 sub-have c = omega arith
@@ -52,26 +55,36 @@ loop-holds c =
     let a = c .before .before .before .before .args in
     checked-none (a .s .now) (λ j. c .before .before .before .shared-slice-known .given j .fits) (a .at) (a .n) (omega arith) (omega arith)
 
-refuse-requires-2 : tie.Need-refuse-requires-2 Inv-loop μ-loop
-refuse-requires-2 c κs = search needs
+sub-refuse-one : tie.Need-sub-refuse-one Inv-loop μ-loop
+sub-refuse-one c = let x = c .before .before .loop .inv in omega (arith, x .few)
+
+add-refuse-one : tie.Need-add-refuse-one Inv-loop μ-loop
+add-refuse-one c = omega arith
+
+refuse-one-requires : tie.Need-refuse-one-requires Inv-loop μ-loop
+refuse-one-requires c κs = let x = c .before .before .loop .inv in (omega (arith, x .unread), omega arith, x .byte)
 
 returns-3 : tie.Need-returns-3 Inv-loop μ-loop
 returns-3 c =
     let a = c .before .before .before .before .before .before .before .before .args in
     let l = c .before .before .before .loop in
-    c .refuse2 .ensures ∙ checked-broken (a .s .now) (λ j. c .before .before .before .before .before .before .before .shared-slice-known .given j .fits) (a .at) (a .n) (l .i) (l .have) (l .v) (l .left) (l .inv) (omega arith) (λ e. omega arith)
+    let r = c .refuse-one .ensures in
+    r .3 ∙ checked-broken (a .s .now) (λ j. c .before .before .before .before .before .before .before .shared-slice-known .given j .fits) (a .at) (a .n) (l .i) (l .have) (l .v) (l .left) (l .inv) (omega arith) (λ e. omega arith) (r .0) (r .1) (r .2)
 
 add-i : tie.Need-add-i Inv-loop μ-loop
 add-i c = omega arith
 
-refuse-requires-3 : tie.Need-refuse-requires-3 Inv-loop μ-loop
-refuse-requires-3 c κs = search needs
+mul-refuse : tie.Need-mul-refuse Inv-loop μ-loop
+mul-refuse c = let x = c .before .before .before .loop .inv in omega (arith, x .ends, x .few)
+
+refuse-requires-2 : tie.Need-refuse-requires-2 Inv-loop μ-loop
+refuse-requires-2 c κs = let x = c .before .before .before .loop .inv in omega (arith, x .ends, x .few)
 
 returns-4 : tie.Need-returns-4 Inv-loop μ-loop
 returns-4 c =
     let a = c .before .before .before .before .before .before .before .before .before .args in
     let l = c .before .before .before .before .loop in
-    c .refuse3 .ensures ∙ checked-end (a .s .now) (λ j. c .before .before .before .before .before .before .before .before .shared-slice-known .given j .fits) (a .at) (a .n) (l .i) (l .have) (l .v) (l .left) (l .inv) (omega arith) (omega arith) (omega arith)
+    c .refuse2 .ensures ∙ checked-end (a .s .now) (λ j. c .before .before .before .before .before .before .before .before .shared-slice-known .given j .fits) (a .at) (a .n) (l .i) (l .have) (l .v) (l .left) (l .inv) (omega arith) (omega arith) (omega arith)
 
 shared-slice-read-v-2 : tie.Need-shared-slice-read-v-2 Inv-loop μ-loop
 shared-slice-read-v-2 c = omega arith
@@ -100,14 +113,25 @@ cast-if5 c = omega arith
 shr-if5 : tie.Need-shr-if5 Inv-loop μ-loop
 shr-if5 c = omega arith
 
-refuse-requires-4 : tie.Need-refuse-requires-4 Inv-loop μ-loop
-refuse-requires-4 c κs = search needs
+sub-refuse-one-2 : tie.Need-sub-refuse-one-2 Inv-loop μ-loop
+sub-refuse-one-2 c = let x = c .before .before .loop .inv in omega (arith, x .few)
+
+add-refuse-one-2 : tie.Need-add-refuse-one-2 Inv-loop μ-loop
+add-refuse-one-2 c = omega arith
+
+-- a number whose first digits are not 0 is above 0
+some-digit : (v k : ℕ) → (v / 2 ^ k ≡ 0 → ⊥) → 0 < v
+some-digit v k h = pos-of-ne-zero (λ (e : v ≡ 0). h (rw e (zero-div (2 ^ k))))
+
+refuse-one-requires-2 : tie.Need-refuse-one-requires-2 Inv-loop μ-loop
+refuse-one-requires-2 c κs = let l = c .before .before .loop in (omega (arith, l .inv .unread), some-digit (l .v) (8 - l .left) (c .if5 .taken), l .inv .byte)
 
 returns-5 : tie.Need-returns-5 Inv-loop μ-loop
 returns-5 c =
     let a = c .before .before .before .before .before .before .before .before .args in
     let l = c .before .before .before .loop in
-    c .refuse4 .ensures ∙ checked-last-broken (a .s .now) (λ j. c .before .before .before .before .before .before .before .shared-slice-known .given j .fits) (a .at) (a .n) (l .i) (l .have) (l .v) (l .left) (l .inv) (omega arith) (c .before .if5 .taken)
+    let r = c .refuse-one2 .ensures in
+    r .3 ∙ checked-last-broken (a .s .now) (λ j. c .before .before .before .before .before .before .before .shared-slice-known .given j .fits) (a .at) (a .n) (l .i) (l .have) (l .v) (l .left) (l .inv) (omega arith) (c .before .if5 .taken) (r .0) (r .1) (r .2)
 
 returns-6 : tie.Need-returns-6 Inv-loop μ-loop
 returns-6 c =
@@ -130,10 +154,13 @@ read-zeros-spec =
     cast-v-2
     shl-v
     loop-holds
-    refuse-requires-2
+    sub-refuse-one
+    add-refuse-one
+    refuse-one-requires
     returns-3
     add-i
-    refuse-requires-3
+    mul-refuse
+    refuse-requires-2
     returns-4
     shared-slice-read-v-2
     cast-v-3
@@ -143,6 +170,8 @@ read-zeros-spec =
     sub-if5
     cast-if5
     shr-if5
-    refuse-requires-4
+    sub-refuse-one-2
+    add-refuse-one-2
+    refuse-one-requires-2
     returns-5
     returns-6)

@@ -26,8 +26,8 @@ cast-read-zeros c = search needs
 read-zeros-requires : tie.Need-read-zeros-requires
 read-zeros-requires c κs = search needs
 
-enum-known-why : tie.Need-enum-known-why
-enum-known-why c = search needs
+enum-known-number : tie.Need-enum-known-number
+enum-known-number c = search needs
 
 enum-known-width : tie.Need-enum-known-width
 enum-known-width c = search needs
@@ -51,30 +51,31 @@ first c =
     spans-ok (read (zeroBits «ext_dm_alignment_zero_bit» (padding (a .level))) (a .at) l) v n (e ∙ named-zeros «ext_dm_alignment_zero_bit» (padding (a .level)) (a .at) l)
 
 returns : tie.Need-returns
-returns c start =
+returns c =
     let a = c .before .before .before .before .before .before .args in
     let B = bitsOf (a .s .now) in
     let l = drop (a .at) B in
-    let r = c .before .why .given .0 .0 in
+    let k = c .before .number .given .0 .0 in
+    let w = c .before .number .given .0 .1 .0 in
     let z = c .before .before .before in
-    let e : Refused r ≡ spanOf (read (zeroBits nameless (padding (a .level))) (a .at) l) =
-    sym (c .before .why .given .1) ∙ z .read-zeros .ensures ∙ ap (λ (k : ℕ). spanOf (read (zeroBits nameless k) (a .at) l)) (z .before .padding-of .ensures) in
+    let e : Refused k w ≡ spanOf (read (zeroBits nameless (padding (a .level))) (a .at) l) =
+    sym (c .before .number .given .1) ∙ z .read-zeros .ensures ∙ ap (λ (k : ℕ). spanOf (read (zeroBits nameless k) (a .at) l)) (z .before .padding-of .ensures) in
     let o = read (zeroBits «ext_dm_alignment_zero_bit» (padding (a .level))) (a .at) l in
-    first-no (afterFields start (a .level) (a .block)) o (λ z. ordered start (kept (a .block))) (a .at) B (read-closing start (a .level) (a .block) (a .at) l) r
-    (spans-no o r (e ∙ named-zeros «ext_dm_alignment_zero_bit» (padding (a .level)) (a .at) l))
+    first-no (afterFields (a .start) (a .level) (a .block)) o (λ z. ordered (a .start) (kept (a .block))) (a .at) B (read-closing (a .start) (a .level) (a .block) (a .at) l) k w
+    (spans-no o k w (e ∙ named-zeros «ext_dm_alignment_zero_bit» (padding (a .level)) (a .at) l))
 
 returns-2 : tie.Need-returns-2
-returns-2 c start =
+returns-2 c =
     let d = c .before .before in
     let a = d .before .before .before .before .before .before .args in
-    in-order start (a .level) (a .block) (a .at) (bitsOf (a .s .now)) (d .before .width .given .0 .1 .0) (first d) (sym (c .before .in-order .ensures) ∙ c .if1 .taken)
+    in-order (a .start) (a .level) (a .block) (a .at) (bitsOf (a .s .now)) (d .before .width .given .0 .1 .0) (first d) (sym (c .before .in-order .ensures) ∙ c .if1 .taken)
 
 returns-3 : tie.Need-returns-3
-returns-3 c start =
+returns-3 c =
     let d = c .before .before .before in
     let a = d .before .before .before .before .before .before .args in
     c .refuse .ensures
-    ∙ out-of-order start (a .level) (a .block) (a .at) (bitsOf (a .s .now)) (d .before .width .given .0 .1 .0) (first d) (sym (c .before .before .in-order .ensures) ∙ c .before .if1 .left)
+    ∙ out-of-order (a .start) (a .level) (a .block) (a .at) (bitsOf (a .s .now)) (d .before .width .given .0 .1 .0) (first d) (sym (c .before .before .in-order .ensures) ∙ c .before .if1 .left)
 
 pub after-fields-spec : {M : Type 1} → statement M
 after-fields-spec =
@@ -83,7 +84,7 @@ after-fields-spec =
     padding-of-requires
     cast-read-zeros
     read-zeros-requires
-    enum-known-why
+    enum-known-number
     enum-known-width
     in-order-requires
     refuse-requires

@@ -21,8 +21,8 @@ use Rattle.block.proofs.after_length.Tie as tie
 read-u-requires : tie.Need-read-u-requires
 read-u-requires c κs = search needs
 
-enum-known-why : tie.Need-enum-known-why
-enum-known-why c = search needs
+enum-known-number : tie.Need-enum-known-number
+enum-known-number c = search needs
 
 enum-known-level : tie.Need-enum-known-level
 enum-known-level c = search needs
@@ -56,27 +56,28 @@ behind-requires c κs =
     let a = d .before .before .before .before .before .args in
     let v = d .before .level .given .0 .0 in
     let n = d .before .level .given .0 .1 .0 in
-    let few : partTook (c .read-body .result) ≤ contentBits = rw (c .read-body .ensures 0) (took-few contentBits (body 0 (pos (a .size)) (pos v)) (takes-body 0 (pos (a .size)) (pos v)) (a .at + n) (drop (a .at + n) (bitsOf (a .s .now)))) in
+    let few : partTook (c .read-body .result) ≤ contentBits = rw (c .read-body .ensures) (took-few contentBits (body (a .start) (pos (a .size)) (pos v)) (takes-body (a .start) (pos (a .size)) (pos v)) (a .at + n) (drop (a .at + n) (bitsOf (a .s .now)))) in
     omega (arith, f .2, few)
 
 returns : tie.Need-returns
-returns c start =
+returns c =
     let a = c .before .before .before .before .before .args in
     let B = bitsOf (a .s .now) in
     let l = drop (a .at) B in
-    let r = c .before .why .given .0 .0 in
-    let q : Refused r ≡ numberOf (u nameless 8 (a .at) l) = sym (c .before .why .given .1) ∙ c .before .before .before .read-u .ensures in
+    let k = c .before .number .given .0 .0 in
+    let w = c .before .number .given .0 .1 .0 in
+    let q : Refused k w ≡ numberOf (u nameless 8 (a .at) l) = sym (c .before .number .given .1) ∙ c .before .before .before .read-u .ensures in
     let o = u «ext_block_level» 8 (a .at) l in
-    first-no (afterLength start (pos (a .size))) o (λ v. body start (pos (a .size)) (pos v)) (a .at) B (read-level start (pos (a .size)) (a .at) l) r (is-no o r (q ∙ named-u «ext_block_level» (a .at) l 8))
+    first-no (afterLength (a .start) (pos (a .size))) o (λ v. body (a .start) (pos (a .size)) (pos v)) (a .at) B (read-level (a .start) (pos (a .size)) (a .at) l) k w (is-no o k w (q ∙ named-u «ext_block_level» (a .at) l 8))
 
 returns-2 : tie.Need-returns-2
-returns-2 c start =
+returns-2 c =
     let d = c .before .before in
     let a = d .before .before .before .before .before .args in
     let B = bitsOf (a .s .now) in
     let l = drop (a .at) B in
-    c .behind .ensures ∙ ap (partBehind (d .before .level .given .0 .1 .0)) (c .before .read-body .ensures start)
-    ∙ second-on (afterLength start (pos (a .size))) (u «ext_block_level» 8 (a .at) l) (λ v. body start (pos (a .size)) (pos v)) (a .at) B (read-level start (pos (a .size)) (a .at) l)
+    c .behind .ensures ∙ ap (partBehind (d .before .level .given .0 .1 .0)) (c .before .read-body .ensures)
+    ∙ second-on (afterLength (a .start) (pos (a .size))) (u «ext_block_level» 8 (a .at) l) (λ v. body (a .start) (pos (a .size)) (pos v)) (a .at) B (read-level (a .start) (pos (a .size)) (a .at) l)
     (d .before .level .given .0 .0) (d .before .level .given .0 .1 .0) (first d .0)
 
 pub after-length-spec : {M : Type 1} → statement M
@@ -84,7 +85,7 @@ after-length-spec =
     tie.close
     (tie.spec
     read-u-requires
-    enum-known-why
+    enum-known-number
     enum-known-level
     add-read-body
     cast-read-body

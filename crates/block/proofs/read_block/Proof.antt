@@ -21,8 +21,8 @@ use Rattle.block.proofs.read_block.Tie as tie
 read-ue-requires : tie.Need-read-ue-requires
 read-ue-requires c κs = search needs
 
-enum-known-why : tie.Need-enum-known-why
-enum-known-why c = search needs
+enum-known-number : tie.Need-enum-known-number
+enum-known-number c = search needs
 
 enum-known-size : tie.Need-enum-known-size
 enum-known-size c = search needs
@@ -52,7 +52,7 @@ behind-requires c κs =
     let a = d .before .before .before .before .before .args in
     let v = d .before .size .given .0 .0 in
     let n = d .before .size .given .0 .1 .0 in
-    let few : partTook (c .after-length .result) ≤ 8 + contentBits = rw (c .after-length .ensures 0) (took-few (8 + contentBits) (afterLength 0 (pos v)) (takes-after-length 0 (pos v)) (a .at + n) (drop (a .at + n) (bitsOf (a .s .now)))) in
+    let few : partTook (c .after-length .result) ≤ 8 + contentBits = rw (c .after-length .ensures) (took-few (8 + contentBits) (afterLength (a .at) (pos v)) (takes-after-length (a .at) (pos v)) (a .at + n) (drop (a .at + n) (bitsOf (a .s .now)))) in
     omega (arith, f .1, few)
 
 returns : tie.Need-returns
@@ -60,10 +60,11 @@ returns c =
     let a = c .before .before .before .before .before .args in
     let B = bitsOf (a .s .now) in
     let l = drop (a .at) B in
-    let r = c .before .why .given .0 .0 in
-    let q : Refused r ≡ numberOf (ue nameless mostZeros (a .at) l) = sym (c .before .why .given .1) ∙ c .before .before .before .read-ue .ensures in
+    let k = c .before .number .given .0 .0 in
+    let w = c .before .number .given .0 .1 .0 in
+    let q : Refused k w ≡ numberOf (ue nameless mostZeros (a .at) l) = sym (c .before .number .given .1) ∙ c .before .before .before .read-ue .ensures in
     let o = ue «ext_block_length» mostZeros (a .at) l in
-    first-no block o (λ v. afterLength (a .at) (pos v)) (a .at) B (read-length (a .at) l) r (is-no o r (q ∙ named-ue «ext_block_length» (a .at) l mostZeros))
+    first-no block o (λ v. afterLength (a .at) (pos v)) (a .at) B (read-length (a .at) l) k w (is-no o k w (q ∙ named-ue «ext_block_length» (a .at) l mostZeros))
 
 returns-2 : tie.Need-returns-2
 returns-2 c =
@@ -71,7 +72,7 @@ returns-2 c =
     let a = d .before .before .before .before .before .args in
     let B = bitsOf (a .s .now) in
     let l = drop (a .at) B in
-    c .behind .ensures ∙ ap (partBehind (d .before .size .given .0 .1 .0)) (c .before .after-length .ensures (a .at))
+    c .behind .ensures ∙ ap (partBehind (d .before .size .given .0 .1 .0)) (c .before .after-length .ensures)
     ∙ second-on block (ue «ext_block_length» mostZeros (a .at) l) (λ v. afterLength (a .at) (pos v)) (a .at) B (read-length (a .at) l)
     (d .before .size .given .0 .0) (d .before .size .given .0 .1 .0) (first d .0)
 
@@ -80,7 +81,7 @@ read-block-spec =
     tie.close
     (tie.spec
     read-ue-requires
-    enum-known-why
+    enum-known-number
     enum-known-size
     add-after-length
     after-length-requires

@@ -29,32 +29,32 @@ refuse-requires-2 : tie.Need-refuse-requires-2
 refuse-requires-2 c κs = search needs
 
 returns : tie.Need-returns
-returns c start =
+returns c =
     let b = c .before .before .before in
     let a = b .before .before .before .args in
-    c .read-content .ensures start
-    ∙ body-is start (a .size) (a .level) (a .at) (drop (a .at) (bitsOf (a .s .now))) (sym (b .before .is-known .ensures) ∙ c .before .before .if1 .taken) (c .before .if2 .taken ∙ b .bytes-of .ensures)
+    c .read-content .ensures
+    ∙ body-is (a .start) (a .size) (a .level) (a .at) (drop (a .at) (bitsOf (a .s .now))) (sym (b .before .is-known .ensures) ∙ c .before .before .if1 .taken) (c .before .if2 .taken ∙ b .bytes-of .ensures)
 
 returns-2 : tie.Need-returns-2
-returns-2 c start =
+returns-2 c =
     let b = c .before .before .before in
     let a = b .before .before .before .args in
     c .refuse .ensures
-    ∙ body-length start (a .size) (a .level) (a .at) (drop (a .at) (bitsOf (a .s .now))) (sym (b .before .is-known .ensures) ∙ c .before .before .if1 .taken) (λ e. c .before .if2 .left (e ∙ sym (b .bytes-of .ensures)))
+    ∙ body-length (a .start) (a .size) (a .level) (a .at) (drop (a .at) (bitsOf (a .s .now))) (sym (b .before .is-known .ensures) ∙ c .before .before .if1 .taken) (λ e. c .before .if2 .left (e ∙ sym (b .bytes-of .ensures)))
 
 returns-3 : tie.Need-returns-3
-returns-3 c start =
+returns-3 c =
     let b = c .before .before .before in
     let a = b .before .before .before .args in
     c .skip .ensures (a .level)
-    ∙ body-reserved start (a .size) (a .level) (a .at) (drop (a .at) (bitsOf (a .s .now))) (sym (b .before .is-known .ensures) ∙ c .before .before .if1 .left) (c .before .if3 .taken)
+    ∙ body-reserved (a .start) (a .size) (a .level) (a .at) (drop (a .at) (bitsOf (a .s .now))) (sym (b .before .is-known .ensures) ∙ c .before .before .if1 .left) (c .before .if3 .taken)
 
 returns-4 : tie.Need-returns-4
-returns-4 c start =
+returns-4 c =
     let b = c .before .before .before in
     let a = b .before .before .before .args in
     c .refuse2 .ensures
-    ∙ body-too-long start (a .size) (a .level) (a .at) (drop (a .at) (bitsOf (a .s .now))) (sym (b .before .is-known .ensures) ∙ c .before .before .if1 .left) (c .before .if3 .left)
+    ∙ body-too-long (a .start) (a .size) (a .level) (a .at) (drop (a .at) (bitsOf (a .s .now))) (sym (b .before .is-known .ensures) ∙ c .before .before .if1 .left) (c .before .if3 .left)
 
 pub read-body-spec : {M : Type 1} → statement M
 read-body-spec =

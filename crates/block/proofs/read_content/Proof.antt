@@ -20,8 +20,8 @@ use Rattle.block.proofs.read_content.Tie as tie
 fields-of-requires : tie.Need-fields-of-requires
 fields-of-requires c κs = search needs
 
-enum-known-why : tie.Need-enum-known-why
-enum-known-why c = search needs
+enum-known-number : tie.Need-enum-known-number
+enum-known-number c = search needs
 
 enum-known-b : tie.Need-enum-known-b
 enum-known-b c = search needs
@@ -43,7 +43,7 @@ add-after-fields : tie.Need-add-after-fields
 add-after-fields c = let f = first c in omega (arith, f .1)
 
 after-fields-requires : tie.Need-after-fields-requires
-after-fields-requires c κs = search needs
+after-fields-requires c κs = let f = first c in let s = c .before .before .before .before .before in (s .pre .0, omega (arith, f .1))
 
 behind-requires : tie.Need-behind-requires
 behind-requires c κs =
@@ -51,34 +51,35 @@ behind-requires c κs =
     let f = first d in
     let a = d .before .before .before .before .before .args in
     let n = d .before .b .given .0 .1 .0 in
-    let few : partTook (c .after-fields .result) ≤ contentBits = rw (c .after-fields .ensures 0) (few-zeros 0 (a .level) (d .before .b .given .0 .0) (a .at + n) (drop (a .at + n) (bitsOf (a .s .now)))) in
+    let few : partTook (c .after-fields .result) ≤ contentBits = rw (c .after-fields .ensures) (few-zeros (a .start) (a .level) (d .before .b .given .0 .0) (a .at + n) (drop (a .at + n) (bitsOf (a .s .now)))) in
     omega (arith, f .1, few)
 
 returns : tie.Need-returns
 unfolding fieldsRead
-returns c start =
+returns c =
     let s = c .before .before .before .before .before in
     let B = bitsOf (s .args .s .now) in
     let l = drop (s .args .at) B in
-    let r = c .before .why .given .0 .0 in
-    first-no (contentFrom start (s .args .level)) (fieldsRead s) (afterFields start (s .args .level)) (s .args .at) B (read-fields start (s .args .level) (s .args .at) l) r (step-no (fieldsRead s) r (sym (c .before .why .given .1) ∙ c .before .before .before .fields-of .ensures))
+    let k = c .before .number .given .0 .0 in
+    let w = c .before .number .given .0 .1 .0 in
+    first-no (contentFrom (s .args .start) (s .args .level)) (fieldsRead s) (afterFields (s .args .start) (s .args .level)) (s .args .at) B (read-fields (s .args .start) (s .args .level) (s .args .at) l) k w (step-no (fieldsRead s) k w (sym (c .before .number .given .1) ∙ c .before .before .before .fields-of .ensures))
 
 returns-2 : tie.Need-returns-2
 unfolding fieldsRead
-returns-2 c start =
+returns-2 c =
     let d = c .before .before in
     let s = d .before .before .before .before .before in
     let a = s .args in
     let B = bitsOf (a .s .now) in
-    c .behind .ensures ∙ ap (partBehind (d .before .b .given .0 .1 .0)) (c .before .after-fields .ensures start)
-    ∙ second-on (contentFrom start (a .level)) (fieldsRead s) (afterFields start (a .level)) (a .at) B (read-fields start (a .level) (a .at) (drop (a .at) B)) (d .before .b .given .0 .0) (d .before .b .given .0 .1 .0) (first d .0)
+    c .behind .ensures ∙ ap (partBehind (d .before .b .given .0 .1 .0)) (c .before .after-fields .ensures)
+    ∙ second-on (contentFrom (a .start) (a .level)) (fieldsRead s) (afterFields (a .start) (a .level)) (a .at) B (read-fields (a .start) (a .level) (a .at) (drop (a .at) B)) (d .before .b .given .0 .0) (d .before .b .given .0 .1 .0) (first d .0)
 
 pub read-content-spec : {M : Type 1} → statement M
 read-content-spec =
     tie.close
     (tie.spec
     fields-of-requires
-    enum-known-why
+    enum-known-number
     enum-known-b
     add-after-fields
     after-fields-requires

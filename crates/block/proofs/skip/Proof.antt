@@ -15,6 +15,9 @@ add-if1 c = search needs
 add-if1-2 : tie.Need-add-if1-2
 add-if1-2 c = search needs
 
+mul-refuse : tie.Need-mul-refuse
+mul-refuse c = search needs
+
 refuse-requires : tie.Need-refuse-requires
 refuse-requires c κs = search needs
 
@@ -25,4 +28,4 @@ returns-2 : tie.Need-returns-2
 returns-2 c l = let a = c .before .before .args in passed-over l (a .size) (a .at) (a .s .now) (omega arith)
 
 pub skip-spec : {M : Type 1} → statement M
-skip-spec = tie.close (tie.spec mul-bits add-if1 add-if1-2 refuse-requires returns returns-2)
+skip-spec = tie.close (tie.spec mul-bits add-if1 add-if1-2 mul-refuse refuse-requires returns returns-2)

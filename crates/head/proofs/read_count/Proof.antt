@@ -11,14 +11,14 @@ use Rattle.head.proofs.Laws.{count-no, count-is, count-many}
 read-ue-requires : tie.Need-read-ue-requires
 read-ue-requires c κs = search needs
 
-enum-known-why : tie.Need-enum-known-why
-enum-known-why c = search needs
+enum-known-number : tie.Need-enum-known-number
+enum-known-number c = search needs
 
 enum-known-n : tie.Need-enum-known-n
 enum-known-n c = search needs
 
-cast-t10 : tie.Need-cast-t10
-cast-t10 c = search needs
+cast-t11 : tie.Need-cast-t11
+cast-t11 c = search needs
 
 refuse-requires : tie.Need-refuse-requires
 refuse-requires c κs = search needs
@@ -26,7 +26,7 @@ refuse-requires c κs = search needs
 returns : tie.Need-returns
 returns c =
     let a = c .before .before .before .before .before .args in
-    count-no (a .at) (drop (a .at) (bitsOf (a .s .now))) (c .before .why .given .0 .0) (sym (c .before .why .given .1) ∙ c .before .before .before .read-ue .ensures)
+    count-no (a .at) (drop (a .at) (bitsOf (a .s .now))) (c .before .number .given .0 .0) (c .before .number .given .0 .1 .0) (sym (c .before .number .given .1) ∙ c .before .before .before .read-ue .ensures)
 
 returns-2 : tie.Need-returns-2
 returns-2 c =
@@ -45,9 +45,9 @@ read-count-spec =
     tie.close
     (tie.spec
     read-ue-requires
-    enum-known-why
+    enum-known-number
     enum-known-n
-    cast-t10
+    cast-t11
     refuse-requires
     returns
     returns-2

@@ -18,8 +18,8 @@ use Rattle.head.proofs.Laws.{longest, took-few, brief-count, flag-no, f
 read-u-requires : tie.Need-read-u-requires
 read-u-requires c κs = search needs
 
-enum-known-why : tie.Need-enum-known-why
-enum-known-why c = search needs
+enum-known-number : tie.Need-enum-known-number
+enum-known-number c = search needs
 
 enum-known-flag : tie.Need-enum-known-flag
 enum-known-flag c = search needs
@@ -43,7 +43,7 @@ add-read-count : tie.Need-add-read-count
 add-read-count c = omega (arith, short (c .before))
 
 read-count-requires : tie.Need-read-count-requires
-read-count-requires c κs = search needs
+read-count-requires c κs = omega (arith, short (c .before))
 
 behind-requires : tie.Need-behind-requires
 behind-requires c κs =
@@ -55,7 +55,7 @@ behind-requires c κs =
 returns-2 : tie.Need-returns-2
 returns-2 c =
     let a = c .before .before .before .before .before .args in
-    flag-no (a .at) (bitsOf (a .s .now)) (c .before .why .given .0 .0) (sym (c .before .why .given .1) ∙ c .before .before .before .read-u .ensures)
+    flag-no (a .at) (bitsOf (a .s .now)) (c .before .number .given .0 .0) (c .before .number .given .0 .1 .0) (sym (c .before .number .given .1) ∙ c .before .before .before .read-u .ensures)
 
 returns-3 : tie.Need-returns-3
 returns-3 c =
@@ -70,7 +70,7 @@ read-flag-spec =
     tie.close
     (tie.spec
     read-u-requires
-    enum-known-why
+    enum-known-number
     enum-known-flag
     returns
     add-read-count

@@ -13,8 +13,8 @@ use Rattle.head.proofs.Laws.{opening-ok, head-short, head-no, head-on}
 read-identifier-requires : tie.Need-read-identifier-requires
 read-identifier-requires c κs = search needs
 
-enum-known-why : tie.Need-enum-known-why
-enum-known-why c = search needs
+enum-known-number : tie.Need-enum-known-number
+enum-known-number c = search needs
 
 enum-known-refresh : tie.Need-enum-known-refresh
 enum-known-refresh c = search needs
@@ -31,7 +31,7 @@ read-padding-requires c κs =
     omega (arith, head-short (bitsOf (c .before .before .before .before .before .args .s .now)) (announced (r .0 .0) (r .0 .1 .0)) (r .0 .1 .1 .0) (first c))
 
 returns : tie.Need-returns
-returns c = head-no (bitsOf (c .before .before .before .before .before .args .s .now)) (c .before .why .given .0 .0) (sym (c .before .why .given .1) ∙ c .before .before .before .read-identifier .ensures)
+returns c = head-no (bitsOf (c .before .before .before .before .before .args .s .now)) (c .before .number .given .0 .0) (c .before .number .given .0 .1 .0) (sym (c .before .number .given .1) ∙ c .before .before .before .read-identifier .ensures)
 
 returns-2 : tie.Need-returns-2
 returns-2 c =
@@ -44,7 +44,7 @@ read-head-spec =
     tie.close
     (tie.spec
     read-identifier-requires
-    enum-known-why
+    enum-known-number
     enum-known-refresh
     read-padding-requires
     returns

@@ -18,8 +18,8 @@ use Rattle.head.proofs.Laws.{longest, ue-short, took-few, brief-version
 read-ue-requires : tie.Need-read-ue-requires
 read-ue-requires c κs = search needs
 
-enum-known-why : tie.Need-enum-known-why
-enum-known-why c = search needs
+enum-known-number : tie.Need-enum-known-number
+enum-known-number c = search needs
 
 enum-known-identifier : tie.Need-enum-known-identifier
 enum-known-identifier c = search needs
@@ -54,7 +54,7 @@ returns-2 : tie.Need-returns-2
 unfolding head fromVersion fromFlag
 returns-2 c =
     let a = c .before .before .before .before .before .args in
-    one-no «app_identifier» wrongIdentifier 1 fromVersion 0 (bitsOf (a .s .now)) (c .before .why .given .0 .0) (sym (c .before .why .given .1) ∙ c .before .before .before .read-ue .ensures)
+    one-no «app_identifier» wrongIdentifier 1 fromVersion 0 (bitsOf (a .s .now)) (c .before .number .given .0 .0) (c .before .number .given .0 .1 .0) (sym (c .before .number .given .1) ∙ c .before .before .before .read-ue .ensures)
 
 returns-3 : tie.Need-returns-3
 unfolding head fromVersion fromFlag
@@ -71,7 +71,7 @@ read-identifier-spec =
     tie.close
     (tie.spec
     read-ue-requires
-    enum-known-why
+    enum-known-number
     enum-known-identifier
     refuse-requires
     returns

@@ -22,8 +22,8 @@ zeros-behind-requires c κs = search needs
 read-zeros-requires : tie.Need-read-zeros-requires
 read-zeros-requires c κs = search needs
 
-enum-known-why : tie.Need-enum-known-why
-enum-known-why c = search needs
+enum-known-number : tie.Need-enum-known-number
+enum-known-number c = search needs
 
 enum-known-width : tie.Need-enum-known-width
 enum-known-width c = search needs
@@ -33,8 +33,8 @@ gap : (c : tie.After-zeros-behind) → spanOf (read (zeroBits nameless (c .zeros
     ≡ spanOf (read (zeroBits nameless (cond (not (eqb (c .before .before .args .count) 0)) (toBoundary (c .before .before .args .n)) 0)) (c .before .before .args .n) (drop (c .before .before .args .n) (bitsOf (c .before .before .args .s .now))))
 gap c = let a = c .before .before .args in ap (λ (k : ℕ). spanOf (read (zeroBits nameless k) (a .n) (drop (a .n) (bitsOf (a .s .now))))) (c .zeros-behind .ensures .0)
 
-add-t11 : tie.Need-add-t11
-add-t11 c =
+add-t12 : tie.Need-add-t12
+add-t12 c =
     let a = c .before .before .before .before .before .before .args in
     let g = c .before .width .given in
     omega (arith, aligned-took (announced (a .refresh) (a .count)) (a .n) (drop (a .n) (bitsOf (a .s .now))) (g .0 .0) (g .0 .1 .0) (sym (g .1) ∙ c .before .before .before .read-zeros .ensures ∙ gap (c .before .before .before .before)), c .before .before .before .before .zeros-behind .ensures)
@@ -42,7 +42,7 @@ add-t11 c =
 returns : tie.Need-returns
 returns c =
     let a = c .before .before .before .before .before .before .args in
-    ap (openingBehind (a .n)) (aligned-no (announced (a .refresh) (a .count)) (a .n) (drop (a .n) (bitsOf (a .s .now))) (c .before .why .given .0 .0) (sym (c .before .why .given .1) ∙ c .before .before .before .read-zeros .ensures ∙ gap (c .before .before .before .before)))
+    ap (openingBehind (a .n)) (aligned-no (announced (a .refresh) (a .count)) (a .n) (drop (a .n) (bitsOf (a .s .now))) (c .before .number .given .0 .0) (c .before .number .given .0 .1 .0) (sym (c .before .number .given .1) ∙ c .before .before .before .read-zeros .ensures ∙ gap (c .before .before .before .before)))
 
 returns-2 : tie.Need-returns-2
 returns-2 c =
@@ -56,8 +56,8 @@ read-padding-spec =
     (tie.spec
     zeros-behind-requires
     read-zeros-requires
-    enum-known-why
+    enum-known-number
     enum-known-width
-    add-t11
+    add-t12
     returns
     returns-2)

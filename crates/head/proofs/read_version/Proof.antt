@@ -15,8 +15,8 @@ use Rattle.head.proofs.Laws.{longest, ue-short, took-few, brief-flag, o
 read-ue-requires : tie.Need-read-ue-requires
 read-ue-requires c κs = search needs
 
-enum-known-why : tie.Need-enum-known-why
-enum-known-why c = search needs
+enum-known-number : tie.Need-enum-known-number
+enum-known-number c = search needs
 
 enum-known-version : tie.Need-enum-known-version
 enum-known-version c = search needs
@@ -54,7 +54,7 @@ returns-2 : tie.Need-returns-2
 unfolding fromVersion
 returns-2 c =
     let a = c .before .before .before .before .before .args in
-    one-no «app_version» wrongVersion 0 fromFlag (a .at) (bitsOf (a .s .now)) (c .before .why .given .0 .0) (sym (c .before .why .given .1) ∙ c .before .before .before .read-ue .ensures)
+    one-no «app_version» wrongVersion 0 fromFlag (a .at) (bitsOf (a .s .now)) (c .before .number .given .0 .0) (c .before .number .given .0 .1 .0) (sym (c .before .number .given .1) ∙ c .before .before .before .read-ue .ensures)
 
 returns-3 : tie.Need-returns-3
 unfolding fromVersion
@@ -70,7 +70,7 @@ read-version-spec =
     tie.close
     (tie.spec
     read-ue-requires
-    enum-known-why
+    enum-known-number
     enum-known-version
     refuse-requires
     returns

@@ -17,14 +17,14 @@ find-ours-requires c κs = search needs
 enum-told : tie.Need-enum-told
 enum-told c = search needs
 
-refused-requires : tie.Need-refused-requires
-refused-requires c κs = search needs
+unplaced-requires : tie.Need-unplaced-requires
+unplaced-requires c κs = search needs
 
 enum-told-2 : tie.Need-enum-told-2
 enum-told-2 c = search needs
 
-refused-requires-2 : tie.Need-refused-requires-2
-refused-requires-2 c κs = search needs
+unplaced-requires-2 : tie.Need-unplaced-requires-2
+unplaced-requires-2 c κs = search needs
 
 enum-known-start : tie.Need-enum-known-start
 enum-known-start c = search needs
@@ -54,12 +54,12 @@ read-wrapped-requires c κs = search needs
 returns : tie.Need-returns
 returns c =
     let s = c .before .before .before .before .before .args .s .now in
-    c .refused .ensures ∙ read-broken (messagesIn s) (sym (ap (standsAt s) (c .before .enum-told .given .1)) ∙ c .before .before .before .find-ours .ensures .0)
+    c .unplaced .ensures ∙ read-broken (messagesIn s) (sym (ap (standsAt s) (c .before .enum-told .given .1)) ∙ c .before .before .before .find-ours .ensures .0)
 
 returns-2 : tie.Need-returns-2
 returns-2 c =
     let s = c .before .before .before .before .before .args .s .now in
-    c .refused2 .ensures ∙ read-nothing (messagesIn s) (sym (ap (standsAt s) (c .before .enum-told2 .given .1)) ∙ c .before .before .before .find-ours .ensures .0)
+    c .unplaced2 .ensures ∙ read-nothing (messagesIn s) (sym (ap (standsAt s) (c .before .enum-told2 .given .1)) ∙ c .before .before .before .find-ours .ensures .0)
 
 returns-3 : tie.Need-returns-3
 returns-3 c =
@@ -75,9 +75,9 @@ read-messages-spec =
     (tie.spec
     find-ours-requires
     enum-told
-    refused-requires
+    unplaced-requires
     enum-told-2
-    refused-requires-2
+    unplaced-requires-2
     enum-known-start
     add-end
     sub-read-wrapped

@@ -32,6 +32,9 @@ slice-aggregate-write-all c = sym (length-take-le _ _ (listed (c .before .before
 write-all-requires-3 : tie.Need-write-all-requires-3
 write-all-requires-3 c κs = search needs
 
+place-requires : tie.Need-place-requires
+place-requires c κs = search needs
+
 returns : tie.Need-returns
 returns c = search needs
 
@@ -46,4 +49,5 @@ outcome-spec =
     array-share-prefix-text
     slice-aggregate-write-all
     write-all-requires-3
+    place-requires
     returns)

@@ -18,12 +18,12 @@ same-length c = search needs
 returns : tie.Need-returns
 returns c =
     let d = c .before .before .before .before .before .before .args .facts .now in
-    c .before .before .put-facts .ensures ∙ sym (ap (λ (t : Bool). cond t (0 ∷ 0 ∷ []) d) (eq-eqb (length d) factsLength (c .before .before .before .before .if1 .taken)))
+    c .before .before .put-facts .ensures ∙ sym (ap (λ (t : Bool). cond t (0 ∷ 0 ∷ 0 ∷ 0 ∷ []) d) (eq-eqb (length d) factsLength (c .before .before .before .before .if1 .taken)))
 
 returns-2 : tie.Need-returns-2
 returns-2 c =
     let d = c .before .before .args .facts .now in
-    sym (ap (λ (t : Bool). cond t (0 ∷ 0 ∷ []) d) (ne-eqb (length d) factsLength (c .if1 .left)))
+    sym (ap (λ (t : Bool). cond t (0 ∷ 0 ∷ 0 ∷ 0 ∷ []) d) (ne-eqb (length d) factsLength (c .if1 .left)))
 
 pub clear-facts-spec : {M : Type 1} → statement M
 clear-facts-spec = tie.close (tie.spec put-facts-requires same-length returns returns-2)

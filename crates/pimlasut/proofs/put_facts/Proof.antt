@@ -15,6 +15,12 @@ slice-write-facts c = search needs
 slice-write-facts-2 : tie.Need-slice-write-facts-2
 slice-write-facts-2 c = search needs
 
+slice-write-facts-3 : tie.Need-slice-write-facts-3
+slice-write-facts-3 c = search needs
+
+slice-write-facts-4 : tie.Need-slice-write-facts-4
+slice-write-facts-4 c = search needs
+
 same-length : tie.Need-same-length
 same-length c = search needs
 
@@ -22,8 +28,8 @@ returns : tie.Need-returns
 returns c =
     let s = c in
     let d = s .args .facts .now in
-    let l = s .args .bits ∷ s .args .skipped ∷ [] in
-    sets-eq l d 0 (omega (arith, s .pre)) ∙ ap (λ (k : List ℕ). l ++ k) (drop-of-length-le d {i = 0 + 2} (omega (arith, s .pre)))
+    let l = s .args .bits ∷ s .args .skipped ∷ s .args .offset ∷ s .args .mark ∷ [] in
+    sets-eq l d 0 (omega (arith, s .pre)) ∙ ap (λ (k : List ℕ). l ++ k) (drop-of-length-le d {i = 0 + 4} (omega (arith, s .pre)))
 
 pub put-facts-spec : {M : Type 1} → statement M
-put-facts-spec = tie.close (tie.spec slice-write-facts slice-write-facts-2 same-length returns)
+put-facts-spec = tie.close (tie.spec slice-write-facts slice-write-facts-2 slice-write-facts-3 slice-write-facts-4 same-length returns)

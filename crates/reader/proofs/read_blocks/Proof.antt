@@ -4,7 +4,6 @@ use Prim.Native.Nat.{_+_, _-_, _<_, _≤_}
 use mathlib.Core.Path.{_≡_, _∙_, sym, ap}
 use native.Mathlib.Omega.{arith}
 use lib.ListN.{drop, set}
-use Rattle.refusals.specs.declared.Refusal.{Refusal}
 use Rattle.tree.specs.Bits.{bitsOf}
 use Rattle.tree.specs.Reading.{ok}
 use Rattle.bits.proofs.Reading.{is-ok, is-no}
@@ -14,7 +13,7 @@ use Rattle.met.specs.Met.{mostTargets}
 use Rattle.syntax.specs.Data.{mostAnnounced, announced}
 use Rattle.head.proofs.Laws.{opening-few}
 use Rattle.reader.specs.Reading.{summary, refusedReading, endFrom}
-use Rattle.reader.proofs.Laws.{Reached, reached-none, reached-few, reached-counted, reached-all, reached-no, reached-past, reached-range, reached-repeated, reached-room, reached-more, blocksFrom, no-blocks, no-end, at-the-end}
+use Rattle.reader.proofs.Laws.{Reached, reached-none, reached-few, reached-counted, reached-all, reached-no, reached-past, reached-range, reached-repeated, reached-room, reached-more, blocksFrom, by-told, no-blocks, no-end, at-the-end}
 use borrow.Author.Needs.{needs}
 use Rattle.reader.proofs.read_blocks.Statement.{statement}
 use Rattle.reader.proofs.read_blocks.Tie as tie
@@ -49,8 +48,8 @@ add-read-block c = let x = c .before .loop .inv in omega (arith, few (c .before)
 read-block-requires : tie.Need-read-block-requires Inv-loop μ-loop
 read-block-requires c κs = let x = c .before .loop .inv in omega (arith, few (c .before), x .short, x .few)
 
-enum-known-why : tie.Need-enum-known-why Inv-loop μ-loop
-enum-known-why c = search needs
+enum-known-number : tie.Need-enum-known-number Inv-loop μ-loop
+enum-known-number c = search needs
 
 refused-requires : tie.Need-refused-requires Inv-loop μ-loop
 refused-requires c κs = search needs
@@ -61,8 +60,8 @@ returns c =
     let s = at .before .before .before .before in
     let a = s .args in
     let l = at .loop in
-    let f = reached-no (a .refresh) (bitsOf (a .s .now)) (a .start) (a .n) (l .r) (l .seen) (l .targets) (l .width) (l .skipped) (l .i) (l .inv) (omega arith) (c .before .before .why .given .0 .0) (sym (c .before .before .why .given .1) ∙ c .before .before .before .before .read-block .ensures) in
-    c .refused .ensures ∙ ap (λ (q : Refusal). refusedReading (q .number)) (f .2) ∙ no-blocks (bitsOf (a .s .now)) (announced (a .refresh) (a .n)) (a .start) (s .pre) (f .0) (f .1)
+    let f = reached-no (a .refresh) (bitsOf (a .s .now)) (a .start) (a .n) (l .r) (l .seen) (l .targets) (l .width) (l .skipped) (l .i) (l .inv) (omega arith) (c .before .before .number .given .0 .0) (c .before .before .number .given .0 .1 .0) (sym (c .before .before .number .given .1) ∙ c .before .before .before .before .read-block .ensures) in
+    c .refused .ensures ∙ by-told (bitsOf (a .s .now)) (c .before .before .number .given .0 .0) (c .before .before .number .given .0 .1 .0) (f .0) (f .2) (f .3) (no-blocks (bitsOf (a .s .now)) (announced (a .refresh) (a .n)) (a .start) (s .pre) (f .0) (f .1))
 
 enum-known-w : tie.Need-enum-known-w Inv-loop μ-loop
 enum-known-w c = search needs
@@ -94,15 +93,15 @@ loop-less c = omega arith
 loop-again : tie.Need-loop-again Inv-loop μ-loop
 loop-again c = past c
 
-enum-known-block : tie.Need-enum-known-block Inv-loop μ-loop
-enum-known-block c = search needs
+enum-known-m : tie.Need-enum-known-m Inv-loop μ-loop
+enum-known-m c = search needs
 
 admits-requires : tie.Need-admits-requires Inv-loop μ-loop
 admits-requires c κs =
     let a = c .before .before .before .before .before .before .before .before .before .before .args in
     let l = c .before .before .before .before .before .before .loop in
-    let g = c .before .before .block .given in
-    reached-range (a .refresh) (bitsOf (a .s .now)) (a .start) (a .n) (l .r) (l .seen) (l .targets) (l .width) (l .skipped) (l .i) (l .inv) (omega arith) (g .0 .0) (g .0 .1 .0) (sym (g .1) ∙ c .before .before .before .before .read-block .ensures)
+    let g = c .before .before .m .given in
+    reached-range (a .refresh) (bitsOf (a .s .now)) (a .start) (a .n) (l .r) (l .seen) (l .targets) (l .width) (l .skipped) (l .i) (l .inv) (omega arith) (g .0 .1 .0) (g .0 .0) (sym (g .1) ∙ c .before .before .before .before .read-block .ensures)
 
 -- what is kept of the blocks met
 counted : (c : tie.At-loop Inv-loop μ-loop) → c .loop .seen .twos ≤ mostTargets
@@ -113,8 +112,8 @@ room : (c : tie.Then1 Inv-loop μ-loop) → c .before .before .before .before .b
 room c =
     let a = c .before .before .before .before .before .before .before .before .before .before .before .before .args in
     let l = c .before .before .before .before .before .before .before .before .loop in
-    let g = c .before .before .before .before .block .given in
-    reached-room (a .refresh) (bitsOf (a .s .now)) (a .start) (a .n) (l .r) (l .seen) (l .targets) (l .width) (l .skipped) (l .i) (l .inv) (omega arith) (g .0 .0) (g .0 .1 .0) (sym (g .1) ∙ c .before .before .before .before .before .before .read-block .ensures) (c .before .admits .result) (c .before .admits .ensures) (c .if1 .taken)
+    let g = c .before .before .before .before .m .given in
+    reached-room (a .refresh) (bitsOf (a .s .now)) (a .start) (a .n) (l .r) (l .seen) (l .targets) (l .width) (l .skipped) (l .i) (l .inv) (omega arith) (g .0 .1 .0) (g .0 .0) (sym (g .1) ∙ c .before .before .before .before .before .before .read-block .ensures) (c .before .admits .result) (c .before .admits .ensures) (c .if1 .taken)
 
 cast-k : tie.Need-cast-k Inv-loop μ-loop
 cast-k c = search needs
@@ -134,8 +133,8 @@ including-requires c κs = counted (c .before .before .before .before .before .b
 cast-j : tie.Need-cast-j Inv-loop μ-loop
 cast-j c = omega (arith, room (c .before .before .before))
 
-mul-t26 : tie.Need-mul-t26 Inv-loop μ-loop
-mul-t26 c = omega (arith, room (c .before .before .before))
+mul-t28 : tie.Need-mul-t28 Inv-loop μ-loop
+mul-t28 c = omega (arith, room (c .before .before .before))
 
 element-set-from-r : tie.Need-element-set-from-r Inv-loop μ-loop
 element-set-from-r c = room (c .before .before .before)
@@ -145,14 +144,14 @@ add-r c = omega (arith, room (c .before .before .before))
 
 -- with one block more, which is kept
 again : (c : tie.After-including Inv-loop μ-loop)
-    → Reached (c .before .before .before .before .before .before .before .before .before .before .before .before .before .before .before .args .refresh) (bitsOf (c .before .before .before .before .before .before .before .before .before .before .before .before .before .before .before .args .s .now)) (c .before .before .before .before .before .before .before .before .before .before .before .before .before .before .before .args .start) (c .before .before .before .before .before .before .before .before .before .before .before .before .before .before .before .args .n) (withBlock (c .before .before .before .before .before .before .before .before .before .before .before .loop .r) (c .before .before .before .before .before .before .before .block .given .0 .0)) (c .including .result) (set (c .before .before .before .before .before .before .before .before .before .before .before .loop .targets) (c .before .before .before .before .before .before .before .before .before .before .before .loop .seen .twos) (c .before .target-of .result)) (c .before .before .before .before .before .before .before .before .before .before .before .loop .width + c .before .before .before .before .before .before .before .block .given .0 .1 .0) (c .before .before .before .before .before .before .before .before .before .before .before .loop .skipped) (c .before .before .before .before .before .before .before .before .before .before .before .loop .i + 1)
+    → Reached (c .before .before .before .before .before .before .before .before .before .before .before .before .before .before .before .args .refresh) (bitsOf (c .before .before .before .before .before .before .before .before .before .before .before .before .before .before .before .args .s .now)) (c .before .before .before .before .before .before .before .before .before .before .before .before .before .before .before .args .start) (c .before .before .before .before .before .before .before .before .before .before .before .before .before .before .before .args .n) (withBlock (c .before .before .before .before .before .before .before .before .before .before .before .loop .r) (c .before .before .before .before .before .before .before .m .given .0 .1 .0)) (c .including .result) (set (c .before .before .before .before .before .before .before .before .before .before .before .loop .targets) (c .before .before .before .before .before .before .before .before .before .before .before .loop .seen .twos) (c .before .target-of .result)) (c .before .before .before .before .before .before .before .before .before .before .before .loop .width + c .before .before .before .before .before .before .before .m .given .0 .0) (c .before .before .before .before .before .before .before .before .before .before .before .loop .skipped) (c .before .before .before .before .before .before .before .before .before .before .before .loop .i + 1)
 again c =
     let a = c .before .before .before .before .before .before .before .before .before .before .before .before .before .before .before .args in
     let l = c .before .before .before .before .before .before .before .before .before .before .before .loop in
-    let g = c .before .before .before .before .before .before .before .block .given in
+    let g = c .before .before .before .before .before .before .before .m .given in
     let d = c .before .before .before in
     rw (c .before .target-of .ensures)
-    (reached-more (a .refresh) (bitsOf (a .s .now)) (a .start) (a .n) (l .r) (l .seen) (l .targets) (l .width) (l .skipped) (l .i) (l .inv) (omega arith) (g .0 .0) (g .0 .1 .0) (sym (g .1) ∙ c .before .before .before .before .before .before .before .before .before .read-block .ensures) (d .before .admits .result) (d .before .admits .ensures) (d .if1 .taken) (c .including .result) (c .including .ensures))
+    (reached-more (a .refresh) (bitsOf (a .s .now)) (a .start) (a .n) (l .r) (l .seen) (l .targets) (l .width) (l .skipped) (l .i) (l .inv) (omega arith) (g .0 .1 .0) (g .0 .0) (sym (g .1) ∙ c .before .before .before .before .before .before .before .before .before .read-block .ensures) (d .before .admits .result) (d .before .admits .ensures) (d .if1 .taken) (c .including .result) (c .including .ensures))
 
 add-width-2 : tie.Need-add-width-2 Inv-loop μ-loop
 add-width-2 c = let x = again c in omega (arith, few (c .before .before .before .before .before .before .before .before .before .before .before), x .short, x .few)
@@ -166,6 +165,15 @@ loop-less-2 c = omega arith
 loop-again-2 : tie.Need-loop-again-2 Inv-loop μ-loop
 loop-again-2 c = again c
 
+repeat-of-requires : tie.Need-repeat-of-requires Inv-loop μ-loop
+repeat-of-requires c κs = search needs
+
+add-refused : tie.Need-add-refused Inv-loop μ-loop
+add-refused c = let d = c .before .before .before .before .before .before .before .before .before in let x = d .loop .inv in omega (arith, few d, x .short, x .few)
+
+cast-refused : tie.Need-cast-refused Inv-loop μ-loop
+cast-refused c = let d = c .before .before .before .before .before .before .before .before .before in let x = d .loop .inv in omega (arith, few d, x .short, x .few)
+
 refused-requires-2 : tie.Need-refused-requires-2 Inv-loop μ-loop
 refused-requires-2 c κs = search needs
 
@@ -175,14 +183,14 @@ inside c = omega arith
 
 returns-2 : tie.Need-returns-2 Inv-loop μ-loop
 returns-2 c =
-    let at = c .before .before .before .before .before .before .before .before .before in
+    let at = c .before .before .before .before .before .before .before .before .before .before in
     let s = at .before .before .before .before in
     let a = s .args in
     let l = at .loop in
-    let g = c .before .before .before .before .before .block .given in
-    let d = c .before in
-    let f = reached-repeated (a .refresh) (bitsOf (a .s .now)) (a .start) (a .n) (l .r) (l .seen) (l .targets) (l .width) (l .skipped) (l .i) (l .inv) (inside (c .before .before .before .before .before .before .before .before)) (g .0 .0) (g .0 .1 .0) (sym (g .1) ∙ c .before .before .before .before .before .before .before .read-block .ensures) (d .before .admits .result) (d .before .admits .ensures) (d .if1 .left) in
-    c .refused2 .ensures ∙ ap refusedReading (sym (f .2)) ∙ no-blocks (bitsOf (a .s .now)) (announced (a .refresh) (a .n)) (a .start) (s .pre) (f .0) (f .1)
+    let g = c .before .before .before .before .before .before .m .given in
+    let d = c .before .before in
+    let f = reached-repeated (a .refresh) (bitsOf (a .s .now)) (a .start) (a .n) (l .r) (l .seen) (l .targets) (l .width) (l .skipped) (l .i) (l .inv) (inside (c .before .before .before .before .before .before .before .before .before)) (g .0 .1 .0) (g .0 .0) (sym (g .1) ∙ c .before .before .before .before .before .before .before .before .read-block .ensures) (d .before .admits .result) (d .before .admits .ensures) (d .if1 .left) (c .before .repeat-of .result) (c .before .repeat-of .ensures) in
+    c .refused2 .ensures ∙ by-told (bitsOf (a .s .now)) (c .before .repeat-of .result) (a .start + l .width) (f .0) (f .2) (f .3) (no-blocks (bitsOf (a .s .now)) (announced (a .refresh) (a .n)) (a .start) (s .pre) (f .0) (f .1))
 
 -- all blocks were read
 all : (c : tie.After-loop Inv-loop μ-loop) → blocksFrom (announced (c .before .before .before .before .before .args .refresh) (c .before .before .before .before .before .args .n)) (c .before .before .before .before .before .args .start) (drop (c .before .before .before .before .before .args .start) (bitsOf (c .before .before .before .before .before .args .s .now))) ≡ ok (summary (c .before .loop .r) (c .before .loop .skipped)) (c .before .loop .width)
@@ -197,8 +205,8 @@ add-read-end c = let x = c .before .loop .inv in omega (arith, few (c .before), 
 read-end-requires : tie.Need-read-end-requires Inv-loop μ-loop
 read-end-requires c κs = let x = c .before .loop .inv in omega (arith, few (c .before), x .short, x .few)
 
-enum-known-why-2 : tie.Need-enum-known-why-2 Inv-loop μ-loop
-enum-known-why-2 c = search needs
+enum-known-number-2 : tie.Need-enum-known-number-2 Inv-loop μ-loop
+enum-known-number-2 c = search needs
 
 refused-requires-3 : tie.Need-refused-requires-3 Inv-loop μ-loop
 refused-requires-3 c κs = search needs
@@ -212,10 +220,10 @@ returns-3 c =
     let s = d .before .before .before .before .before in
     let a = s .args in
     let l = d .before .loop in
-    let g = c .before .before .why2 .given in
-    let f = is-no (endFrom (a .start + l .width) (drop (a .start + l .width) (bitsOf (a .s .now)))) (g .0 .0) (sym (g .1) ∙ c .before .before .before .before .read-end .ensures) in
-    c .refused3 .ensures ∙ ap (λ (q : Refusal). refusedReading (q .number)) (f .2)
-    ∙ no-end (bitsOf (a .s .now)) (announced (a .refresh) (a .n)) (a .start) (s .pre) (summary (l .r) (l .skipped)) (l .width) (all d) (f .0) (f .1)
+    let g = c .before .before .number2 .given in
+    let f = is-no (endFrom (a .start + l .width) (drop (a .start + l .width) (bitsOf (a .s .now)))) (g .0 .0) (g .0 .1 .0) (sym (g .1) ∙ c .before .before .before .before .read-end .ensures) in
+    c .refused3 .ensures
+    ∙ by-told (bitsOf (a .s .now)) (g .0 .0) (g .0 .1 .0) (f .0) (f .2) (f .3) (no-end (bitsOf (a .s .now)) (announced (a .refresh) (a .n)) (a .start) (s .pre) (summary (l .r) (l .skipped)) (l .width) (all d) (f .0) (f .1))
 
 returns-4 : tie.Need-returns-4 Inv-loop μ-loop
 returns-4 c =
@@ -238,7 +246,7 @@ read-blocks-spec =
     loop-holds
     add-read-block
     read-block-requires
-    enum-known-why
+    enum-known-number
     refused-requires
     returns
     enum-known-w
@@ -247,7 +255,7 @@ read-blocks-spec =
     add-i
     loop-less
     loop-again
-    enum-known-block
+    enum-known-m
     admits-requires
     cast-k
     target-of-requires
@@ -255,18 +263,21 @@ read-blocks-spec =
     array-write-targets
     including-requires
     cast-j
-    mul-t26
+    mul-t28
     element-set-from-r
     add-r
     add-width-2
     add-i-2
     loop-less-2
     loop-again-2
+    repeat-of-requires
+    add-refused
+    cast-refused
     refused-requires-2
     returns-2
     add-read-end
     read-end-requires
-    enum-known-why-2
+    enum-known-number-2
     refused-requires-3
     enum-known-bits
     returns-3

@@ -1,12 +1,10 @@
 -- `reader::read_data` meets its contract: no head, or a head and what follows it.
-use mathlib.Core.Path.{_∙_, sym, ap}
-use Rattle.refusals.specs.declared.Refusal.{Refusal}
+use mathlib.Core.Path.{_∙_, sym}
 use Rattle.tree.specs.Bits.{bitsOf}
 use Rattle.tree.specs.Syntax.{read}
 use Rattle.head.specs.Opening.{opening}
 use Rattle.head.proofs.Laws.{opening-ok, opening-no}
-use Rattle.reader.specs.Reading.{refusedReading}
-use Rattle.reader.proofs.Laws.{no-head}
+use Rattle.reader.proofs.Laws.{by-told, no-head}
 use borrow.Author.Needs.{needs}
 use Rattle.reader.proofs.read_data.Statement.{statement}
 use Rattle.reader.proofs.read_data.Tie as tie
@@ -14,8 +12,8 @@ use Rattle.reader.proofs.read_data.Tie as tie
 read-head-requires : tie.Need-read-head-requires
 read-head-requires c κs = search needs
 
-enum-known-why : tie.Need-enum-known-why
-enum-known-why c = search needs
+enum-known-number : tie.Need-enum-known-number
+enum-known-number c = search needs
 
 refused-requires : tie.Need-refused-requires
 refused-requires c κs = search needs
@@ -31,12 +29,12 @@ read-blocks-requires c κs =
 returns : tie.Need-returns
 returns c =
     let s = bitsOf (c .before .before .before .before .before .before .args .input .now) in
-    let g = c .before .before .why .given in
-    let f = opening-no (read opening 0 s) (g .0 .0) (sym (g .1) ∙ c .before .before .before .before .read-head .ensures) in
-    c .refused .ensures ∙ ap (λ (q : Refusal). refusedReading (q .number)) (f .2) ∙ no-head s (f .0) (f .1)
+    let g = c .before .before .number .given in
+    let f = opening-no (read opening 0 s) (g .0 .0) (g .0 .1 .0) (sym (g .1) ∙ c .before .before .before .before .read-head .ensures) in
+    c .refused .ensures ∙ by-told s (g .0 .0) (g .0 .1 .0) (f .0) (f .2) (f .3) (no-head s (f .0) (f .1))
 
 returns-2 : tie.Need-returns-2
 returns-2 c = search needs
 
 pub read-data-spec : {M : Type 1} → statement M
-read-data-spec = tie.close (tie.spec read-head-requires enum-known-why refused-requires enum-known-refresh read-blocks-requires returns returns-2)
+read-data-spec = tie.close (tie.spec read-head-requires enum-known-number refused-requires enum-known-refresh read-blocks-requires returns returns-2)

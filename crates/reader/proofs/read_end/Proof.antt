@@ -20,8 +20,8 @@ zeros-behind-requires c κs = search needs
 read-zeros-requires : tie.Need-read-zeros-requires
 read-zeros-requires c κs = search needs
 
-enum-known-why : tie.Need-enum-known-why
-enum-known-why c = search needs
+enum-known-number : tie.Need-enum-known-number
+enum-known-number c = search needs
 
 enum-known-width : tie.Need-enum-known-width
 enum-known-width c = search needs
@@ -44,13 +44,13 @@ few c =
 add-end : tie.Need-add-end
 add-end c = omega (arith, few c)
 
-cast-t14 : tie.Need-cast-t14
-cast-t14 c = omega (arith, few (c .before))
+cast-bits : tie.Need-cast-bits
+cast-bits c = omega (arith, few c)
 
 returns : tie.Need-returns
 returns c =
     let a = c .before .before .before .before .before .before .args in
-    end-refused (a .at) (bitsOf (a .s .now)) (c .before .why .given .0 .0) (sym (c .before .why .given .1) ∙ to-the-boundary (c .before .before .before))
+    end-refused (a .at) (bitsOf (a .s .now)) (c .before .number .given .0 .0) (c .before .number .given .0 .1 .0) (sym (c .before .number .given .1) ∙ to-the-boundary (c .before .before .before))
 
 returns-2 : tie.Need-returns-2
 returns-2 c =
@@ -72,10 +72,10 @@ read-end-spec =
     (tie.spec
     zeros-behind-requires
     read-zeros-requires
-    enum-known-why
+    enum-known-number
     enum-known-width
     add-end
-    cast-t14
+    cast-bits
     returns
     returns-2
     returns-3)

@@ -18,14 +18,14 @@ use Rattle.sei.proofs.read_unit.Tie as tie
 is-admitted-requires : tie.Need-is-admitted-requires
 is-admitted-requires c κs = search needs
 
-refused-requires : tie.Need-refused-requires
-refused-requires c κs = search needs
+unplaced-requires : tie.Need-unplaced-requires
+unplaced-requires c κs = search needs
 
 returns : tie.Need-returns
 returns c =
     let d = c .before .before in
     let u = d .before .before .args .input .now in
-    c .refused .ensures ∙ not-admitted u (sym (d .is-admitted .ensures) ∙ not-true (d .is-admitted .result) (c .before .if1 .taken))
+    c .unplaced .ensures ∙ not-admitted u (sym (d .is-admitted .ensures) ∙ not-true (d .is-admitted .result) (c .before .if1 .taken))
 
 -- behind the first test the unit is admitted
 is-admitted : (c : tie.Else1) → admitted (c .before .before .before .args .input .now) ≡ true
@@ -34,14 +34,14 @@ is-admitted c = sym (c .before .is-admitted .ensures) ∙ not-false (c .before .
 has-forbidden-requires : tie.Need-has-forbidden-requires
 has-forbidden-requires c κs = search needs
 
-refused-requires-2 : tie.Need-refused-requires-2
-refused-requires-2 c κs = search needs
+unplaced-requires-2 : tie.Need-unplaced-requires-2
+unplaced-requires-2 c κs = search needs
 
 returns-2 : tie.Need-returns-2
 returns-2 c =
     let d = c .before .before in
     let u = d .before .before .before .before .args .input .now in
-    c .refused2 .ensures ∙ start-code u (is-admitted (d .before)) (sym (d .has-forbidden .ensures) ∙ c .before .if2 .taken)
+    c .unplaced2 .ensures ∙ start-code u (is-admitted (d .before)) (sym (d .has-forbidden .ensures) ∙ c .before .if2 .taken)
 
 -- it has its header, and not too many bytes
 long : (c : tie.Else2) → (2 ≤ length (c .before .before .before .before .before .args .input .now)) × (length (c .before .before .before .before .before .args .input .now) ≤ mostUnitBytes)
@@ -75,10 +75,10 @@ read-unit-spec =
     tie.close
     (tie.spec
     is-admitted-requires
-    refused-requires
+    unplaced-requires
     returns
     has-forbidden-requires
-    refused-requires-2
+    unplaced-requires-2
     returns-2
     sub-read-body
     part-read-body-start

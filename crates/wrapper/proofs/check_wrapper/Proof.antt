@@ -57,7 +57,26 @@ returns-3 c =
     let e : l .i ≡ 8 = omega arith in
     rw e at (l .inv .1)
 
+cast-t5 : tie.Need-cast-t5 Inv-loop μ-loop
+cast-t5 c = omega arith
+
+cast-t9 : tie.Need-cast-t9 Inv-loop μ-loop
+cast-t9 c = omega arith
+
 pub check-wrapper-spec : {M : Type 1} → statement M
 check-wrapper-spec =
     tie.close
-    (tie.spec Inv-loop μ-loop loop-holds returns shared-slice-read-if2 wrapper-byte-requires returns-2 add-i loop-less loop-again returns-3)
+    (tie.spec
+    Inv-loop
+    μ-loop
+    loop-holds
+    cast-t5
+    returns
+    shared-slice-read-if2
+    wrapper-byte-requires
+    cast-t9
+    returns-2
+    add-i
+    loop-less
+    loop-again
+    returns-3)

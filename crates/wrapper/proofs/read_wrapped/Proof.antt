@@ -17,8 +17,8 @@ use Rattle.wrapper.proofs.read_wrapped.Tie as tie
 check-wrapper-requires : tie.Need-check-wrapper-requires
 check-wrapper-requires c κs = search needs
 
-enum-known-why : tie.Need-enum-known-why
-enum-known-why c = search needs
+enum-known-number : tie.Need-enum-known-number
+enum-known-number c = search needs
 
 refused-requires : tie.Need-refused-requires
 refused-requires c κs = search needs
@@ -45,7 +45,7 @@ read-data-requires c κs = search needs
 returns : tie.Need-returns
 returns c =
     let s = c .before .before .before .before .before .before .args .input .now in
-    c .refused .ensures ∙ wrapped-no (bitsOf s) (c .before .before .why .given .0 .0) (cc)
+    c .refused .ensures ∙ wrapped-no (bitsOf s) (c .before .before .number .given .0 .0) (c .before .before .number .given .0 .1 .0) (cc)
 
 returns-2 : tie.Need-returns-2
 returns-2 c =
@@ -59,7 +59,7 @@ read-wrapped-spec =
     tie.close
     (tie.spec
     check-wrapper-requires
-    enum-known-why
+    enum-known-number
     refused-requires
     enum-told
     sub-read-data
