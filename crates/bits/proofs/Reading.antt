@@ -12,7 +12,7 @@ use lib.Pow.{pow-pos}
 use lib.Seq.{drop-drop}
 use borrow.Author.Tests.{le-ltb}
 use Rattle.refusals.specs.Refusals.{notZero}
-use Rattle.tree.specs.Bits.{code, bitsOf, value, valueFrom}
+use Rattle.tree.specs.Bits.{code, bitsOf, value}
 use Rattle.tree.specs.Reading.{Fault, numberIn, offsetIn, Out, ok, no, widened, cutOff, overlong, breaks, u, zerosThenOne, ue}
 use Rattle.tree.specs.Syntax.{rangeRule, read, zeroBits}
 use Rattle.tree.specs.Renamed.{renamed}

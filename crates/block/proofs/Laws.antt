@@ -12,7 +12,7 @@ use lib.ListN.{length, drop}
 use lib.Seq.{drop-drop}
 use Rattle.refusals.specs.Refusals.{pastEnd, wrongLength, notInOrder}
 use Rattle.tree.specs.Bits.{bitsOf}
-use Rattle.tree.specs.Reading.{between, allows, Rule, meets, Fault, breaks, Out, ok, no, Reader, widened, andThen, mapped, u, ue}
+use Rattle.tree.specs.Reading.{between, allows, Rule, meets, breaks, Out, ok, no, Reader, widened, andThen, mapped, u, ue}
 use Rattle.tree.specs.Coding.{unsigned, totalWidth, mostZeros, Descriptor, variable, fixed, natural, holdsIn, widthIn}
 use Rattle.tree.specs.Syntax.{Syntax, done, must, any, codingOf, row, zeroBits, read, _>>=_}
 use Rattle.tree.specs.Meaning.{Element, sumOfWidths, complete, Follow, Means}

@@ -9,13 +9,14 @@ use native.Mathlib.Numerals.{add-one}
 use native.Mathlib.Nat.{zero-add}
 use borrow.Author.Tests.{eq-eqb, ne-eqb, leb-true, leb-false, le-leb, lt-leb}
 use lib.Dec.{eqb, leb}
-use lib.ListN.{length, getD, take, drop, drop-of-length-le, length-drop}
+use lib.ListN.{length, getD, take, drop, drop-of-length-le, length-take, length-drop}
 use lib.Seq.{drop-cons, drop-drop}
 use Rattle.refusals.specs.Refusals.{brokenMessages, noneOfOurs}
 use Rattle.tree.proofs.Truth.{clash}
 use Rattle.syntax.specs.Wrapper.{wrapperBytes}
 use Rattle.reader.specs.Reading.{unplaced}
 use Rattle.wrapper.specs.Wrapper.{beginsWith, readWrapped}
+use Rattle.wrapper.proofs.Laws.{too-short}
 use Rattle.rbsp.specs.Message.{Message, message, «ff_byte», Chain, counts, past, further, chain, Frame, frame, noFrame, sized, typed, frameOf, isEnd, ahead, messagesWithin, messagesIn, registered, isOurs, firstOfOurs}
 use Rattle.messages.specs.Answer.{numberAt, framedAt, sizedAt, contentAt, firstIn, orOurs, foundFirst, FirstWithin, FoundWithin, contentIn, oursAmong, standsAt, readFirst, readOurs}
 use Rattle.messages.specs.declared.Number.{Number}
@@ -130,6 +131,10 @@ module _ (s : List ℕ) (f : First) (kind start size : ℕ) where
     -- and else none of ours
     pub note-other : false ≡ beginsWith wrapperBytes (contentAt s start size) → firstIn s f ≡ noted
     note-other b = let x = sought in rw (x .0, x .1, ← b) refl
+
+    -- and so is one that is shorter than our bytes
+    pub note-short : size < 8 → firstIn s f ≡ noted
+    note-short l = note-other (too-short wrapperBytes (contentAt s start size) (omega (arith, length-take size (drop start s))))
 
 -- ---- a message
 

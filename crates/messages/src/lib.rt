@@ -120,6 +120,10 @@ fn note_message(s: &[u8], first: First, kind: usize, start: usize, size: usize) 
     if first.there | (kind != REGISTERED) {
         return first;
     }
+    // A unit can hold thousands of messages that are shorter than the wrapper: these are not even looked into.
+    if size < wrapper::WRAPPER_BYTES {
+        return first;
+    }
     let end = start + size;
     if wrapper::has_wrapper(&s[start..end]) {
         return First {

@@ -1,8 +1,8 @@
 -- 02, e: every refusal says where, and says it rightly; and wherever an input fails, that is told. Of bare data, wrapped data and units.
-use Prim.Native.Nat.{ℕ, zero, suc, _+_, _*_, _/_, _<_, _≤_}
+use Prim.Native.Nat.{ℕ, suc, _+_, _*_, _/_, _<_, _≤_}
 use mathlib.Core.Path.{_≡_, refl, ap, sym, subst, _∙_}
 use mathlib.Core.List.{List, [], _∷_, _++_, append-nil}
-use mathlib.Core.Bool.{Bool, true, false, cond}
+use mathlib.Core.Bool.{Bool, true, false}
 use mathlib.Core.Logic.{_⊎_, inl, inr}
 use native.Mathlib.Omega.{arith}
 use native.Mathlib.Nat.{zero-add, add-zero}
@@ -44,7 +44,7 @@ use Rattle.rbsp.specs.Message.{Message}
 use Rattle.sei.specs.SeiUnit.{readUnit}
 use Rattle.sei.specs.Units.{Thirty, ThirtyOne, ThirtyTwo, ThirtyThree, HoldsOurs}
 use Rattle.sei.proofs.Units.{gets-30, gets-31, gets-32, gets-33, ours-is-read, one-of-five}
-use Rattle.promises.specs.Where.{Fails, cut, long, rule, over, pointsAt, WrappedFails, missing, differs, behind, UnitFails, wrong, startCode, brokenMessages, noneOurs, ours}
+use Rattle.promises.specs.Where.{Fails, cut, long, rule, over, pointsAt, WrappedFails, missing, differs, behind, UnitFails, by30, by31, by32, by33, inOurMessage}
 use Rattle.promises.proofs.Reasons.{fault-of}
 use Rattle.promises.proofs.Units.{our-message-begins}
 
@@ -163,12 +163,12 @@ module _ (n : ℕ) (l : n < 8) where
   in-bytes = omega arith
 
   -- a fault there is the answer, told by its byte
-  in-the-wrapper : (s : List ℕ) (f : Fault Name) → read (wrapperTable «wrapper» wrapperBytes) 0 (bitsOf s) ≡ no f → offsetIn f ≡ 8 * n → elementIn f ≡ «wrapper» → readWrapped s ≡ refusedReading (numberIn f) n true
-  in-the-wrapper s f e o w = rw e (rw (w, o, in-bytes) refl)
+  told-by-its-byte : (s : List ℕ) (f : Fault Name) → read (wrapperTable «wrapper» wrapperBytes) 0 (bitsOf s) ≡ no f → offsetIn f ≡ 8 * n → elementIn f ≡ «wrapper» → readWrapped s ≡ refusedReading (numberIn f) n true
+  told-by-its-byte s f e o w = rw e (rw (w, o, in-bytes) refl)
 
   missing-told : (s : List ℕ) → s ≡ first → readWrapped s ≡ refusedReading 1 n true
   missing-told s e =
-      in-the-wrapper s (cutOff (8 * n) «wrapper»)
+      told-by-its-byte s (cutOff (8 * n) «wrapper»)
       (ap (λ (x : List ℕ). read (wrapperTable «wrapper» wrapperBytes) 0 (bitsOf x)) (e ∙ sym (append-nil first)) ∙ behind-first [] ∙ ap (widened (8 * n)) (wrapper-end «wrapper» next (drop (suc n) wrapperBytes) (8 * n))) refl refl
 
   differs-told : (s : List ℕ) → Bytes s → (b : ℕ) (t : List ℕ) → s ≡ first ++ (b ∷ t) → (b ≡ next → ⊥) → readWrapped s ≡ refusedReading 3 n true
@@ -177,7 +177,7 @@ module _ (n : ℕ) (l : n < 8) where
       let f : Fault Name = breaks (rangeRule «wrapper» wrapperDiffers (pos next) (pos next) (8 * n) (pos b)) in
       let one : read (wrapperTable «wrapper» (next ∷ drop (suc n) wrapperBytes)) (8 * n) (bitsOf (b ∷ t)) ≡ no f =
       wrapper-byte «wrapper» next (drop (suc n) wrapperBytes) (8 * n) b t (small .0) ∙ rw (ne-eqb b next d) refl in
-      in-the-wrapper s f (ap (λ (x : List ℕ). read (wrapperTable «wrapper» wrapperBytes) 0 (bitsOf x)) e ∙ behind-first (b ∷ t) ∙ ap (widened (8 * n)) one) refl refl
+      told-by-its-byte s f (ap (λ (x : List ℕ). read (wrapperTable «wrapper» wrapperBytes) 0 (bitsOf x)) e ∙ behind-first (b ∷ t) ∙ ap (widened (8 * n)) one) refl refl
 
 -- data behind the wrapper
 behind-is : (s t : List ℕ) → s ≡ wrapperBytes ++ t → readWrapped s ≡ readBare t
@@ -208,22 +208,22 @@ pub where-a-unit-fails-is-told : (u : List ℕ) → Bytes u → (n k : ℕ) → 
 where-a-unit-fails-is-told u h n k w = go w
   where
     go : {n k : ℕ} → UnitFails u n k → readUnit u ≡ refusedReading n k false
-    go (wrong t) = gets-30 u t
-    go (startCode t) = gets-31 u h t
-    go (brokenMessages t) = gets-32 u h t
-    go (noneOurs t) = gets-33 u h t
-    go (ours m t {number} {offset} o e f) = ours-is-read u h m o ∙ behind-is (m .content) t e ∙ where-it-fails-is-told t number offset f
+    go (by30 t) = gets-30 u t
+    go (by31 t) = gets-31 u h t
+    go (by32 t) = gets-32 u h t
+    go (by33 t) = gets-33 u h t
+    go (inOurMessage m t {number} {offset} o e f) = ours-is-read u h m o ∙ behind-is (m .content) t e ∙ where-it-fails-is-told t number offset f
 
 pub a-refused-unit-says-where : (u : List ℕ) → Bytes u → (readUnit u .result ≡ 0 → ⊥) → UnitFails u (readUnit u .result) (readUnit u .offset) × (readUnit u .«in_wrapper» ≡ false)
 a-refused-unit-says-where u h n = go (one-of-five u h)
   where
     go : Thirty u ⊎ (ThirtyOne u ⊎ (ThirtyTwo u ⊎ (ThirtyThree u ⊎ ((m : Message) × HoldsOurs u m)))) → UnitFails u (readUnit u .result) (readUnit u .offset) × (readUnit u .«in_wrapper» ≡ false)
-    go (inl t) = rw (gets-30 u t) (wrong t, refl)
-    go (inr (inl t)) = rw (gets-31 u h t) (startCode t, refl)
-    go (inr (inr (inl t))) = rw (gets-32 u h t) (brokenMessages t, refl)
-    go (inr (inr (inr (inl t)))) = rw (gets-33 u h t) (noneOurs t, refl)
+    go (inl t) = rw (gets-30 u t) (by30 t, refl)
+    go (inr (inl t)) = rw (gets-31 u h t) (by31 t, refl)
+    go (inr (inr (inl t))) = rw (gets-32 u h t) (by32 t, refl)
+    go (inr (inr (inr (inl t)))) = rw (gets-33 u h t) (by33 t, refl)
     go (inr (inr (inr (inr (m, o))))) =
         let e = our-message-begins m (o .first .ours) in
         let q = ours-is-read u h m o ∙ behind-is (m .content) (drop 8 (m .content)) e in
         let x = a-refusal-says-where (drop 8 (m .content)) (λ z. n (ap (λ (r : Reading). r .result) q ∙ z)) in
-        rw q (ours m (drop 8 (m .content)) o e (x .0), x .1)
+        rw q (inOurMessage m (drop 8 (m .content)) o e (x .0), x .1)

@@ -49,8 +49,8 @@ pub data WrappedFails (s : List ℕ) : (number offset : ℕ) → (wrapper : Bool
 
 -- A unit u gets the number: as a unit, without a place, or by the data in our first message
 pub data UnitFails (u : List ℕ) : (number offset : ℕ) → Type 0 where
-  wrong : Thirty u → UnitFails u 30 0
-  startCode : ThirtyOne u → UnitFails u 31 0
-  brokenMessages : ThirtyTwo u → UnitFails u 32 0
-  noneOurs : ThirtyThree u → UnitFails u 33 0
-  ours : (m : Message) (t : List ℕ) {number offset : ℕ} → HoldsOurs u m → m .content ≡ wrapperBytes ++ t → Fails (bitsOf t) number offset → UnitFails u number offset
+  by30 : Thirty u → UnitFails u 30 0
+  by31 : ThirtyOne u → UnitFails u 31 0
+  by32 : ThirtyTwo u → UnitFails u 32 0
+  by33 : ThirtyThree u → UnitFails u 33 0
+  inOurMessage : (m : Message) (t : List ℕ) {number offset : ℕ} → HoldsOurs u m → m .content ≡ wrapperBytes ++ t → Fails (bitsOf t) number offset → UnitFails u number offset

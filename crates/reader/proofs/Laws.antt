@@ -44,7 +44,6 @@ use Rattle.head.proofs.Laws.{zeros-took}
 use Rattle.met.specs.declared.Met.{Met}
 use Rattle.met.specs.Met.{mostTargets, targetOf, metOf, targetsMet}
 use Rattle.met.proofs.Laws.{met-store}
-use Rattle.reader.specs.declared.Reading.{Reading}
 use Rattle.reader.specs.Reading.{Summary, summary, summaryOf, summaryIn, acceptedReading, readingOf, refusedReading, endFrom, headAndBlocks}
 
 -- what data comes to

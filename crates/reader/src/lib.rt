@@ -30,7 +30,7 @@ pub struct Reading {
 
 // 01, The record: beside a refusal the record is empty.
 fn refused(number: u8, offset: u32) -> Reading
-    ensures { λ r. ⌜ r ≡ refusedReading (number) (offset) false ⌝ }
+    ensures { λ r. ⌜ r ≡ refusedReading number offset false ⌝ }
 {
     let record = Record::empty();
     Reading {
@@ -38,7 +38,7 @@ fn refused(number: u8, offset: u32) -> Reading
         skipped: 0,
         in_wrapper: false,
         bits: 0,
-        offset: offset,
+        offset,
         record,
     }
 }

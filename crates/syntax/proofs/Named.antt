@@ -4,21 +4,21 @@ use mathlib.Core.Path.{_≡_, refl, ap}
 use mathlib.Core.List.{List, [], _∷_, _++_}
 use mathlib.Core.Bool.{Bool, true, false, cond}
 use lib.Dec.{eqb}
-use lib.IntN.{ℤ, pos}
+use lib.IntN.{pos}
 use lib.ListN.{replicate}
 use Rattle.refusals.specs.Refusals.{wrongIdentifier, wrongVersion, tooManyBlocks}
 use Rattle.tree.specs.Reading.{Fault, offsetIn, no}
 use Rattle.tree.specs.Coding.{unsigned, variable, fixed, natural}
-use Rattle.tree.specs.Syntax.{Syntax, done, here, position, must, any, ranged, oneBit, row, zeroBits, alignment, read, _>>=_}
+use Rattle.tree.specs.Syntax.{done, position, must, any, ranged, oneBit, row, zeroBits, alignment, read, _>>=_}
 use Rattle.tree.specs.Wrapper.{wrapperTable}
 use Rattle.tree.specs.Reasons.{Names}
 use Rattle.tree.proofs.Names.{fault-is-named, whole-fault-is-named, names-done, names-then, names-if, names-here, names-must, names-any, names-ranged, FieldNames, names-row, names-zeros, names-alignment, names-wrapper}
 use Rattle.record.specs.declared.Block.{Block}
 use Rattle.record.specs.declared.Block.the-variants.{Nothing, Level1, Level2, Level5}
 use Rattle.record.specs.Name.{Name, isWrapper, «app_identifier», «app_version», «metadata_refresh_flag», «num_ext_blocks», «dm_alignment_zero_bit», «ext_block_length», «ext_block_level», «ext_dm_alignment_zero_bit», «end», «wrapper»}
-use Rattle.record.specs.Level.{Level, level1, level2, level5, reserved, known, padding, fieldsOf}
-use Rattle.syntax.specs.Data.{mostAnnounced, Head, announced, blockCount, head, Item, kept, passed, keptIn, blockOf, lengthRule, averageRule, orderRules, surplusRule, targetRule, mayFollowRules, content, reservedBits, reservedContent, wholeBlock, block, blocksAfter, firstAlignment, «ST2094-10_data», bareData}
-use Rattle.syntax.specs.Wrapper.{wrapperBytes, wrappedData, inWrapper, toldAt}
+use Rattle.record.specs.Level.{level1, level2, level5, reserved, known, padding, fieldsOf}
+use Rattle.syntax.specs.Data.{mostAnnounced, announced, blockCount, head, Item, kept, passed, keptIn, blockOf, lengthRule, averageRule, orderRules, surplusRule, targetRule, mayFollowRules, content, reservedBits, reservedContent, wholeBlock, block, blocksAfter, firstAlignment, «ST2094-10_data», bareData}
+use Rattle.syntax.specs.Wrapper.{wrapperBytes, inWrapper, toldAt}
 use Rattle.syntax.proofs.Blocks.{afterFields, contentOf, afterLevel, afterLength}
 use Rattle.syntax.proofs.Items.{behind}
 use Rattle.syntax.proofs.Exact.{afterFlag, afterVersion, afterIdentifier, holding, lastly, afterFirst, afterHead}
@@ -129,8 +129,8 @@ module _ (s : List Bool) (f : Fault Name) where
   told-in-bits e = ap (λ (b : Bool). cond b (offsetIn f / 8) (offsetIn f)) (not-in-the-wrapper e)
 
   -- and each in the wrapper
-  pub in-the-wrapper : read (wrapperTable «wrapper» wrapperBytes) 0 s ≡ no f → inWrapper f ≡ true
-  in-the-wrapper e = fault-is-named (λ n. isWrapper n ≡ true) (wrapperTable «wrapper» wrapperBytes) 0 s f (names-wrapper (λ n. isWrapper n ≡ true) «wrapper» wrapperBytes refl) e
+  pub marked-in-the-wrapper : read (wrapperTable «wrapper» wrapperBytes) 0 s ≡ no f → inWrapper f ≡ true
+  marked-in-the-wrapper e = fault-is-named (λ n. isWrapper n ≡ true) (wrapperTable «wrapper» wrapperBytes) 0 s f (names-wrapper (λ n. isWrapper n ≡ true) «wrapper» wrapperBytes refl) e
 
   pub told-in-bytes : read (wrapperTable «wrapper» wrapperBytes) 0 s ≡ no f → toldAt f ≡ offsetIn f / 8
-  told-in-bytes e = ap (λ (b : Bool). cond b (offsetIn f / 8) (offsetIn f)) (in-the-wrapper e)
+  told-in-bytes e = ap (λ (b : Bool). cond b (offsetIn f / 8) (offsetIn f)) (marked-in-the-wrapper e)

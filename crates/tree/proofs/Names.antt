@@ -1,13 +1,13 @@
 -- What holds of the names in a table holds of the name that a fault has: the law, and its laws for parts.
 use Prim.Native.Nat.{ℕ, zero, suc, _+_}
-use mathlib.Core.Path.{_≡_, refl, ap, sym, _∙_}
+use mathlib.Core.Path.{_≡_, refl, ap, _∙_}
 use mathlib.Core.List.{List, [], _∷_}
 use mathlib.Core.Bool.{Bool, true, false, cond}
 use mathlib.Core.Logic.{_⊎_, inl, inr}
 use lib.IntN.{ℤ, pos}
 use lib.ListN.{drop}
 use Rattle.refusals.specs.Refusals.{notZero, wrapperDiffers}
-use Rattle.tree.specs.Reading.{Rule, meets, Fault, cutOff, overlong, breaks, elementIn, Out, ok, no, widened, andThen, toBoundary}
+use Rattle.tree.specs.Reading.{Rule, meets, Fault, cutOff, overlong, breaks, elementIn, Out, ok, no, widened, toBoundary}
 use Rattle.tree.specs.Coding.{unsigned, Descriptor, fixed, coded}
 use Rattle.tree.specs.Syntax.{Syntax, done, reads, checks, here, _>>=_, must, any, ranged, Field, row, zeroBits, alignment, leftOver, read, readWhole}
 use Rattle.tree.specs.Meaning.{CutOff, TooMany}

@@ -29,7 +29,7 @@ use Rattle.output.specs.Output.{written, fits, writtenAs, bufferAs}
 use Rattle.record.specs.Name.{Name, «wrapper»}
 use Rattle.syntax.specs.Data.{bareData}
 use Rattle.syntax.specs.Wrapper.{wrapperBytes, wrappedData, toldAt}
-use Rattle.syntax.proofs.Named.{in-the-wrapper}
+use Rattle.syntax.proofs.Named.{marked-in-the-wrapper}
 use Rattle.reader.specs.Reading.{readingOf, refusedReading}
 use Rattle.wrapper.specs.declared.Wrapper.the-variants.{There, Refused}
 use Rattle.wrapper.specs.Wrapper.{beginsWith, wrapperOf, withoutRoom}
@@ -92,7 +92,7 @@ wrapped-no s k at e = go (is-refused (read (wrapperTable «wrapper» wrapperByte
   where
     go : (f : Fault Name) × (read (wrapperTable «wrapper» wrapperBytes) 0 s ≡ no f) × (k ≡ numberIn f) × (at ≡ toldAt f) → refusedReading k at true ≡ readingOf (wrappedData s)
     go (f, q, v, w) =
-        ap (λ (n : ℕ). refusedReading n at true) v ∙ ap (λ (n : ℕ). refusedReading (numberIn f) n true) w ∙ ap (refusedReading (numberIn f) (toldAt f)) (sym (in-the-wrapper s f q)) ∙ sym (rw q refl)
+        ap (λ (n : ℕ). refusedReading n at true) v ∙ ap (λ (n : ℕ). refusedReading (numberIn f) n true) w ∙ ap (refusedReading (numberIn f) (toldAt f)) (sym (marked-in-the-wrapper s f q)) ∙ sym (rw q refl)
 
 -- the wrapper's bytes have eight bits each
 wrapper-width : (ws : List ℕ) (at : ℕ) (es : List (Element Name)) → Follow (wrapperTable «wrapper» ws) at es (complete tt) → sumOfWidths es ≡ 8 * length ws
@@ -145,6 +145,17 @@ module _ (s : List ℕ) (h : Bytes s) where
 
   pub begins-not : (k at : ℕ) → Refused k at ≡ wrapperOf (read (wrapperTable «wrapper» wrapperBytes) 0 (bitsOf s)) → false ≡ beginsWith wrapperBytes s
   begins-not k at e = sym (ap isMet (is-refused (read (wrapperTable «wrapper» wrapperBytes) 0 (bitsOf s)) k at e .1)) ∙ met-begins wrapperBytes 0 s h
+
+-- fewer bytes do not begin with these
+pub too-short : (ws s : List ℕ) → length s < length ws → false ≡ beginsWith ws s
+unfolding beginsWith
+too-short [] s h = absurd (omega arith)
+too-short (w ∷ ws) [] h = refl
+too-short (w ∷ ws) (b ∷ s) h = go (eqb b w) (too-short ws s (omega arith))
+  where
+    go : (e : Bool) → false ≡ beginsWith ws s → false ≡ (e && beginsWith ws s)
+    go true q = q
+    go false q = refl
 
 -- ---- writing
 

@@ -18,7 +18,7 @@ ghost use Rattle.reader.specs.Reading.{refusedReading};
 ghost use Rattle.wrapper.specs.Wrapper.{beginsWith, readWrapped, writeWrapped, wrappedBuffer, wrapperOf, withoutRoom};
 
 // How many bytes the wrapper has.
-const WRAPPER_BYTES: usize = 8;
+pub const WRAPPER_BYTES: usize = 8;
 
 // Whether the wrapper's bytes are there, or why not.
 enum Wrapper {
@@ -78,7 +78,7 @@ pub fn has_wrapper(input: &[u8]) -> bool
 
 // 01, The record: beside a refusal the record is empty. 02, e: a fault in the wrapper is marked.
 fn refused(number: u8, offset: u32) -> Reading
-    ensures { λ r. ⌜ r ≡ refusedReading (number) (offset) true ⌝ }
+    ensures { λ r. ⌜ r ≡ refusedReading number offset true ⌝ }
 {
     let record = Record::empty();
     Reading {
@@ -86,7 +86,7 @@ fn refused(number: u8, offset: u32) -> Reading
         skipped: 0,
         in_wrapper: true,
         bits: 0,
-        offset: offset,
+        offset,
         record,
     }
 }

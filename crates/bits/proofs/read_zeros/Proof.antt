@@ -11,7 +11,6 @@ use Rattle.refusals.specs.Refusals.{pastEnd}
 use Rattle.bits.specs.Answer.{refusedNumber, spanOf}
 use Rattle.bits.proofs.Reading.{zeros-end}
 use Rattle.bits.proofs.Zeros.{Checked, checked-none, checked-broken, checked-end, checked-more, checked-last-broken, checked-all}
-use borrow.Author.Needs.{needs}
 use Rattle.bits.proofs.read_zeros.Statement.{statement}
 use Rattle.bits.proofs.read_zeros.Tie as tie
 

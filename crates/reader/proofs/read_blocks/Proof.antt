@@ -1,7 +1,7 @@
 -- `reader::read_blocks` meets its contract. The invariant: the record holds the known blocks met, what is kept of them is theirs, the others
 -- are counted, and the answer from here is the answer from the start.
 use Prim.Native.Nat.{_+_, _-_, _<_, _≤_}
-use mathlib.Core.Path.{_≡_, _∙_, sym, ap}
+use mathlib.Core.Path.{_≡_, _∙_, sym}
 use native.Mathlib.Omega.{arith}
 use lib.ListN.{drop, set}
 use Rattle.tree.specs.Bits.{bitsOf}
@@ -12,7 +12,7 @@ use Rattle.valid.specs.Valid.{targets, withBlock}
 use Rattle.met.specs.Met.{mostTargets}
 use Rattle.syntax.specs.Data.{mostAnnounced, announced}
 use Rattle.head.proofs.Laws.{opening-few}
-use Rattle.reader.specs.Reading.{summary, refusedReading, endFrom}
+use Rattle.reader.specs.Reading.{summary, endFrom}
 use Rattle.reader.proofs.Laws.{Reached, reached-none, reached-few, reached-counted, reached-all, reached-no, reached-past, reached-range, reached-repeated, reached-room, reached-more, blocksFrom, by-told, no-blocks, no-end, at-the-end}
 use borrow.Author.Needs.{needs}
 use Rattle.reader.proofs.read_blocks.Statement.{statement}
