@@ -44,7 +44,7 @@ use Rattle.rbsp.specs.Message.{Message}
 use Rattle.sei.specs.SeiUnit.{readUnit}
 use Rattle.sei.specs.Units.{Thirty, ThirtyOne, ThirtyTwo, ThirtyThree, HoldsOurs}
 use Rattle.sei.proofs.Units.{gets-30, gets-31, gets-32, gets-33, ours-is-read, one-of-five}
-use Rattle.promises.specs.Where.{Fails, cut, long, rule, over, pointsAt, WrappedFails, missing, differs, behind, UnitFails, by30, by31, by32, by33, inOurMessage}
+use Rattle.promises.specs.Where.{Fails, cutOffNext, overlongNext, ruleBroken, bytesOver, pointsAt, WrappedFails, wrapperCut, wrapperByte, dataBehind, UnitFails, by30, by31, by32, by33, inOurMessage}
 use Rattle.promises.proofs.Reasons.{fault-of}
 use Rattle.promises.proofs.Units.{our-message-begins}
 
@@ -52,8 +52,8 @@ use Rattle.promises.proofs.Units.{our-message-begins}
 
 -- where a reason is true, the input fails as it says
 reason-fails : (s : List Bool) (f : Fault Name) → Reason s f → Fails s (numberIn f) (offsetIn f)
-reason-fails s (cutOff offset name) m = rw (m .5) (cut (m .0) name (m .2) (m .1) (m .3) (m .4) (m .6))
-reason-fails s (overlong offset name) m = rw (m .5) (long (m .0) name (m .2) (m .1) (m .3) (m .4) (m .6))
+reason-fails s (cutOff offset name) m = rw (m .5) (cutOffNext (m .0) name (m .2) (m .1) (m .3) (m .4) (m .6))
+reason-fails s (overlong offset name) m = rw (m .5) (overlongNext (m .0) name (m .2) (m .1) (m .3) (m .4) (m .6))
 reason-fails s (breaks r) m = go (m .0) (m .1) (m .2) (m .3) (m .4)
   where
     go : (es : List (Element Name)) (t : List Bool) → s ≡ allBits es ++ t → meets r ≡ false
@@ -61,19 +61,19 @@ reason-fails s (breaks r) m = go (m .0) (m .1) (m .2) (m .3) (m .4)
     go es t b h (inl k) =
         let x = k .1 in
         let o : r .offset ≡ sumOfWidths (x .earlier) = omega (arith, x .offset) in
-        rw o (rule (x .earlier) (x .theirs) r t (rw (x .all) at (k .0)) (x .about) o (rw (x .all) at b))
+        rw o (ruleBroken (x .earlier) (x .theirs) r t (rw (x .all) at (k .0)) (x .about) o (rw (x .all) at b))
     go es t b h (inr k) =
         let w = data-spells .only es (k .0) (k .1) in
         let l : 8 ≤ length t = generic.left-over «end» (sumOfWidths es) t (rw (k .2) at h) in
-        rw (k .2, w .1) (over (k .0) t (w .0) (rw (w .1) at b) l)
+        rw (k .2, w .1) (bytesOver (k .0) t (w .0) (rw (w .1) at b) l)
 
 -- and an input that fails is refused so
 fails-refused : (s : List Bool) {n k : ℕ} → Fails s n k → (f : Fault Name) × (bareData s ≡ no f) × (numberIn f ≡ n) × (offsetIn f ≡ k)
-fails-refused s (cut es name d t h b c) = (cutOff (sumOfWidths es) name, a-true-reason-is-given s (cutOff (sumOfWidths es) name) (es, t, d, h, b, refl, c), refl, refl)
-fails-refused s (long es name d t h b c) = (overlong (sumOfWidths es) name, a-true-reason-is-given s (overlong (sumOfWidths es) name) (es, t, d, h, b, refl, c), refl, refl)
-fails-refused s (rule es theirs r t h a o b) =
+fails-refused s (cutOffNext es name d t h b c) = (cutOff (sumOfWidths es) name, a-true-reason-is-given s (cutOff (sumOfWidths es) name) (es, t, d, h, b, refl, c), refl, refl)
+fails-refused s (overlongNext es name d t h b c) = (overlong (sumOfWidths es) name, a-true-reason-is-given s (overlong (sumOfWidths es) name) (es, t, d, h, b, refl, c), refl, refl)
+fails-refused s (ruleBroken es theirs r t h a o b) =
     (breaks r, a-true-reason-is-given s (breaks r) (es ++ theirs, t, b, broken-is-not-met «ST2094-10_data» 0 (es ++ theirs) r h, inl (h, record { earlier = es; theirs = theirs; all = refl; offset = omega (arith, o); about = a })), refl, o)
-fails-refused s (over d t w b l) =
+fails-refused s (bytesOver d t w b l) =
     (breaks (leftOver «end» (dataWidth d) t), ap bareData b ∙ generic.anything-behind «end» «ST2094-10_data» (dataElements d) d t (data-spells .takes d w) l, refl, refl)
 
 -- EVERY REFUSAL SAYS WHERE: its offset is that at which the input fails, and it is not marked
@@ -112,7 +112,7 @@ pub a-missing-bit-is-told-at-the-end : (s : List ℕ) (es : List (Element Name))
 a-missing-bit-is-told-at-the-end s es name t h b c =
     let none : length t ≡ 0 = omega (arith, c .some, ap length (c .begun), length-append t (c .missing), length-code 1 (complement 1 (c .value))) in
     let all : sumOfWidths es ≡ 8 * length s = omega (arith, ap length b, length-append (allBits es) t, length-all es, length-bits s) in
-    where-it-fails-is-told s 1 (sumOfWidths es) (cut es name (fixed (unsigned 1)) t h b c) ∙ ap (λ (k : ℕ). refusedReading 1 k false) all
+    where-it-fails-is-told s 1 (sumOfWidths es) (cutOffNext es name (fixed (unsigned 1)) t h b c) ∙ ap (λ (k : ℕ). refusedReading 1 k false) all
 
 -- ---- wrapped data
 
@@ -187,9 +187,9 @@ pub where-wrapped-data-fails-is-told : (s : List ℕ) → Bytes s → (n k : ℕ
 where-wrapped-data-fails-is-told s h n k mark w = go w
   where
     go : {n k : ℕ} {mark : Bool} → WrappedFails s n k mark → readWrapped s ≡ refusedReading n k mark
-    go (missing i l e) = missing-told i l s e
-    go (differs i b t l e d) = differs-told i l s h b t e d
-    go (behind t {number} {offset} e f) = behind-is s t e ∙ where-it-fails-is-told t number offset f
+    go (wrapperCut i l e) = missing-told i l s e
+    go (wrapperByte i b t l e d) = differs-told i l s h b t e d
+    go (dataBehind t {number} {offset} e f) = behind-is s t e ∙ where-it-fails-is-told t number offset f
 
 pub a-wrapped-refusal-says-where : (s : List ℕ) → Bytes s → (readWrapped s .result ≡ 0 → ⊥) → WrappedFails s (readWrapped s .result) (readWrapped s .offset) (readWrapped s .«in_wrapper»)
 a-wrapped-refusal-says-where s h n = go (begins wrapperBytes s)
@@ -198,9 +198,9 @@ a-wrapped-refusal-says-where s h n = go (begins wrapperBytes s)
     go (inl (t, e)) =
         let q = behind-is s t e in
         let x = a-refusal-says-where t (λ z. n (ap (λ (r : Reading). r .result) q ∙ z)) in
-        rw (q, x .1) (behind t e (x .0))
-    go (inr (inl (i, l, e))) = rw (missing-told i l s e) (missing i l e)
-    go (inr (inr (i, b, t, l, e, d))) = rw (differs-told i l s h b t e d) (differs i b t l e d)
+        rw (q, x .1) (dataBehind t e (x .0))
+    go (inr (inl (i, l, e))) = rw (missing-told i l s e) (wrapperCut i l e)
+    go (inr (inr (i, b, t, l, e, d))) = rw (differs-told i l s h b t e d) (wrapperByte i b t l e d)
 
 -- ---- a unit
 

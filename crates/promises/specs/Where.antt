@@ -21,14 +21,14 @@ use Rattle.sei.specs.Units.{Thirty, ThirtyOne, ThirtyTwo, ThirtyThree, HoldsOur
 -- tables, and meet every rule that stands before the one named
 pub data Fails (s : List Bool) : (number offset : ℕ) → Type 0 where
   -- 1: the element that comes next is not whole when the input ends
-  cut : (es : List (Element Name)) (name : Name) (d : Descriptor) (t : List Bool) → Follow «ST2094-10_data» 0 es (awaits name d) → s ≡ allBits es ++ t → CutOff d t → Fails s 1 (sumOfWidths es)
+  cutOffNext : (es : List (Element Name)) (name : Name) (d : Descriptor) (t : List Bool) → Follow «ST2094-10_data» 0 es (awaits name d) → s ≡ allBits es ++ t → CutOff d t → Fails s 1 (sumOfWidths es)
   -- 2: the code that comes next has a 32nd zero
-  long : (es : List (Element Name)) (name : Name) (d : Descriptor) (t : List Bool) → Follow «ST2094-10_data» 0 es (awaits name d) → s ≡ allBits es ++ t → TooMany d t → Fails s 2 (sumOfWidths es)
+  overlongNext : (es : List (Element Name)) (name : Name) (d : Descriptor) (t : List Bool) → Follow «ST2094-10_data» 0 es (awaits name d) → s ≡ allBits es ++ t → TooMany d t → Fails s 2 (sumOfWidths es)
   -- 4 to 7, 9 to 11, 17 to 19: the elements `theirs`, which begin behind es, break a rule of the table of reasons
-  rule : (es theirs : List (Element Name)) (r : Rule Name) (t : List Bool) → Follow «ST2094-10_data» 0 (es ++ theirs) (broken r) → About es theirs r → r .offset ≡ sumOfWidths es
+  ruleBroken : (es theirs : List (Element Name)) (r : Rule Name) (t : List Bool) → Follow «ST2094-10_data» 0 (es ++ theirs) (broken r) → About es theirs r → r .offset ≡ sumOfWidths es
       → s ≡ allBits (es ++ theirs) ++ t → Fails s (r .number) (sumOfWidths es)
   -- 12: bytes are left over behind the whole payload of data
-  over : (d : Data) (t : List Bool) → WellFormedData d → s ≡ allBits (dataElements d) ++ t → 8 ≤ length t → Fails s 12 (dataWidth d)
+  bytesOver : (d : Data) (t : List Bool) → WellFormedData d → s ≡ allBits (dataElements d) ++ t → 8 ≤ length t → Fails s 12 (dataWidth d)
 
 -- a length that is refused, and a fault that is found after a block: these point at the block's length
 abbrev pub blockNumbers : List ℕ
@@ -41,11 +41,11 @@ pointsAt r = cond (among (r .number) blockNumbers) «ext_block_length» (r .elem
 -- Wrapped data s gets the number, at a byte's offset from the wrapper's first byte, marked, or at a bit offset in the data
 pub data WrappedFails (s : List ℕ) : (number offset : ℕ) → (wrapper : Bool) → Type 0 where
   -- 1: of the wrapper there are only the first n bytes
-  missing : (n : ℕ) → n < 8 → s ≡ take n wrapperBytes → WrappedFails s 1 n true
+  wrapperCut : (n : ℕ) → n < 8 → s ≡ take n wrapperBytes → WrappedFails s 1 n true
   -- 3: the first n bytes are the wrapper's, and the next is another
-  differs : (n b : ℕ) (t : List ℕ) → n < 8 → s ≡ take n wrapperBytes ++ (b ∷ t) → (b ≡ getD wrapperBytes n 0 → ⊥) → WrappedFails s 3 n true
+  wrapperByte : (n b : ℕ) (t : List ℕ) → n < 8 → s ≡ take n wrapperBytes ++ (b ∷ t) → (b ≡ getD wrapperBytes n 0 → ⊥) → WrappedFails s 3 n true
   -- the wrapper is there, and the data behind it fails
-  behind : (t : List ℕ) {number offset : ℕ} → s ≡ wrapperBytes ++ t → Fails (bitsOf t) number offset → WrappedFails s number offset false
+  dataBehind : (t : List ℕ) {number offset : ℕ} → s ≡ wrapperBytes ++ t → Fails (bitsOf t) number offset → WrappedFails s number offset false
 
 -- A unit u gets the number: as a unit, without a place, or by the data in our first message
 pub data UnitFails (u : List ℕ) : (number offset : ℕ) → Type 0 where
