@@ -1,5 +1,5 @@
 // Bits of a lent slice, most significant first: u(n), ue(v) and zero bits, read at a bit position, and the sign of i(n). Any position that 32
-// bits hold gets an answer, and nothing here knows what the bits mean.
+// bits hold (31 for zero bits, with all of them) gets an answer, and nothing here knows what the bits mean.
 ghost use mathlib.Core.Path.{_≡_};
 ghost use Prim.Native.Nat.{ℕ, _+_, _-_, _*_, _/_, _<_, _≤_, _^_};
 ghost use lib.ListN.{length, drop, take};
