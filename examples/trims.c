@@ -1,6 +1,6 @@
 /*
  * Prints the level 2 trims of a wrapped payload: a line for each block, its numbers as the shader gets them. Of one that is refused it
- * prints the number, and where: at which bit of the data, or at which byte of the wrapper.
+ * prints the number, where, at which bit of the data or at which byte of the wrapper, and which element is at fault.
  *
  *   rt staticlib pimlasut
  *   cc -Wall -Wextra -std=c99 -Iinclude examples/trims.c target/staticlib/libpimlasut.a -o trims      (x86-64)
@@ -32,6 +32,8 @@ static float single(uint32_t bits)
     return number;
 }
 
+static const char *const element_names[PIM_ELEMENTS] = PIM_ELEMENT_NAMES;
+
 int main(int count, char **arguments)
 {
     size_t n = count > 1 ? from_arguments(count, arguments) : fread(payload, 1, sizeof payload, stdin);
@@ -39,8 +41,8 @@ int main(int count, char **arguments)
     uint32_t reading[PIM_READING_LEN];
     uint32_t result = pim_read_wrapped(payload, n, record, PIM_RECORD_LEN, reading, PIM_READING_LEN);
     if (result != PIM_DONE) {
-        printf("refused: %u, at %s %u\n", (unsigned)result, reading[PIM_READING_IN_WRAPPER] ? "byte" : "bit",
-               (unsigned)reading[PIM_READING_OFFSET]);
+        printf("refused: %u, at %s %u, %s\n", (unsigned)result, reading[PIM_READING_IN_WRAPPER] ? "byte" : "bit",
+               (unsigned)reading[PIM_READING_OFFSET], element_names[reading[PIM_READING_ELEMENT]]);
         return 1;
     }
     for (int i = 0; i < record[1]; i++) {

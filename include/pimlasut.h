@@ -7,7 +7,7 @@
  *
  * Every function is proved to answer as is said here, for every input (crates/pimlasut). It answers a result number:
  * 0 means done, any other is a refusal. ON A REFUSAL EVERY ARRAY AND EVERY SINGLE NUMBER STAYS AS IT WAS, with one
- * exception: the facts of a reading (`reading`) then say where it was refused, if they have their length.
+ * exception: the facts of a reading (`reading`) then say where and why it was refused, if they have their length.
  *
  * What a caller owes: each pointer is not null, also where a length is 0, and is aligned for its type; `x` and `x_len` name
  * an array of x_len elements (not bytes) that can be read, and written where it is not const; what is written overlaps
@@ -68,7 +68,13 @@ extern "C" {
 #define PIM_READING_SKIPPED 1    /* the number of reserved blocks that were passed over. On a refusal 0 */
 #define PIM_READING_OFFSET 2     /* on a refusal, where the failing element begins; see below. Else 0 */
 #define PIM_READING_IN_WRAPPER 3 /* 1 where that is counted from the wrapper, else 0 */
-#define PIM_READING_LEN 4
+#define PIM_READING_ELEMENT 4    /* on a refusal, which element fails, one of PIM_ELEMENTS; see below. 0 where none does */
+#define PIM_READING_ALLOWED 5    /* what is told of the values that are allowed: PIM_ALLOWED_UNTOLD, _RANGE or _OTHER */
+#define PIM_READING_VALUE 6      /* the value that the element has, its lower 32 bits; 0 where none is told */
+#define PIM_READING_VALUE_HIGH 7 /* and its upper 32 bits: not 0 only for 12, where 2^32 bytes or more remain */
+#define PIM_READING_LOWEST 8     /* with PIM_ALLOWED_RANGE the lowest value that is allowed, else 0 */
+#define PIM_READING_HIGHEST 9    /* and the highest */
+#define PIM_READING_LEN 10
 
 /*
  * Where a reading was refused. In the data (PIM_READING_IN_WRAPPER is 0) it is a bit's offset, from the data's first bit on,
@@ -85,6 +91,51 @@ extern "C" {
  * In the wrapper (PIM_READING_IN_WRAPPER is 1; 3, and 1 where one of its eight bytes is missing) it is that byte's offset, 0
  * to 7. A refusal that is about no element has no place, and 0 in both: 13, and 30 to 33 of a unit.
  */
+
+/*
+ * Why it was refused: every element before the one named meets its rule, and that one does not.
+ *
+ *   result      element                 value                    allowed
+ *   1, 2        the one that is cut     -                        untold
+ *               off or too long
+ *   3           wrapper                 the byte there           range: the byte that is due
+ *   4           app_identifier          its number               range: 1 to 1
+ *   5           app_version             its number               range: 0 to 0
+ *   6           num_ext_blocks          its number               range: 0 to 254
+ *   7           the zero bit            1                        range: 0 to 0
+ *   9           ext_block_length        its number               range: the level's length, or 0 to 1,023
+ *   10          avg_PQ                  avg_PQ                   range: min_PQ to max_PQ; none where min_PQ is above it
+ *   11          target_max_PQ           target_max_PQ            other than those met
+ *   12          end                     bytes that remain        range: 0 to 0
+ *   17, 18, 19  ext_block_level         the level                other than those of which no more may come
+ *
+ * For 9, 10, 11 and 17 to 19 the offset is that of the block's length, and the element named may stand behind it. Where
+ * nothing was refused, and where no element is at fault (13, and 30 to 33 of a unit), all of these are 0.
+ */
+#define PIM_ALLOWED_UNTOLD 0
+#define PIM_ALLOWED_RANGE 1 /* from the lowest to the highest, and no value at all where the lowest is above the highest */
+#define PIM_ALLOWED_OTHER 2
+
+/*
+ * The elements, by their names in A/341, tables E.1.1 to E.1.3; then the end of the data, and a byte of the wrapper:
+ *
+ *   static const char *const names[] = PIM_ELEMENT_NAMES;
+ *   names[reading[PIM_READING_ELEMENT]]
+ *
+ * (metadata_refresh_flag has a place here and is never at fault: it has one bit, of any value, in the first byte.)
+ */
+#define PIM_ELEMENTS 25
+#define PIM_ELEMENT_NAMES                                                                                                        \
+    {                                                                                                                          \
+        "", "app_identifier", "app_version", "metadata_refresh_flag", "num_ext_blocks", "dm_alignment_zero_bit",               \
+            "ext_block_length", "ext_block_level", "min_PQ", "max_PQ", "avg_PQ", "target_max_PQ", "trim_slope", "trim_offset", \
+            "trim_power", "trim_chroma_weight", "trim_saturation_gain", "ms_weight", "active_area_left_offset",                \
+            "active_area_right_offset", "active_area_top_offset", "active_area_bottom_offset", "ext_dm_alignment_zero_bit",    \
+            "end", "wrapper"                                                                                                   \
+    }
+
+/* No text of pim_why_wrapped is longer. */
+#define PIM_WHY_BYTES 110
 
 /* So many bytes always suffice to write a unit. A unit that is read has at most PIM_UNIT_LIMIT, as it arrives. */
 #define PIM_UNIT_BYTES 354
@@ -149,11 +200,20 @@ enum {
  * Read a payload of n bytes, bare or behind the eight wrapper bytes. Done: the record of its known blocks, and the facts of
  * the reading. Refused: 13 if record_len is not PIM_RECORD_LEN or reading_len is not PIM_READING_LEN; else 1 to 7, 9 to 12 or
  * 17 to 19, by the first failure from left to right; after a block 10 comes before 17 to 19, and 19 before 11. On every refusal
- * the record stays as it was, and reading says where; only where reading_len is not PIM_READING_LEN it stays as it was too.
+ * the record stays as it was, and reading says where and why; only where reading_len is not PIM_READING_LEN it stays as it was
+ * too.
  */
 uint32_t pim_read_bare(const uint8_t *in, size_t n, int32_t *record, size_t record_len, uint32_t *reading, size_t reading_len);
 uint32_t pim_read_wrapped(const uint8_t *in, size_t n, int32_t *record, size_t record_len, uint32_t *reading,
                           size_t reading_len);
+
+/*
+ * Tell why wrapped data of n bytes is refused, as key=value lines in ASCII, each ended by one line feed, in the first bytes of
+ * out; later bytes stay: result, offset, element, and, but for 1 and 2, value and allowed, as in "result=10\noffset=8\n
+ * element=avg_PQ\nvalue=3072\nallowed=0-1024\n". Of accepted data the text is "result=0\n". Done: the bytes written; no zero is
+ * written behind them. Refused: 13 if out_len is less than is needed; PIM_WHY_BYTES always suffice.
+ */
+uint32_t pim_why_wrapped(const uint8_t *in, size_t n, uint8_t *out, size_t out_len, uint32_t *written);
 
 /*
  * Write a record's payload into the first bytes of out, bare or behind the eight wrapper bytes; later bytes stay. Done:

@@ -45,5 +45,5 @@ long() {
     printf '%b' "$(printf '\\x%s' 03 00 A0 03 FF C0 00 00 50 03 00 3F FE 00)"
 }
 same "$(long | "${run[@]}" "$out/trims")" "$trims" "examples/trims.c with a long reserved block"
-same "$("${run[@]}" "$out/trims" B5 00 3C || true)" "refused: 3, at byte 2" "examples/trims.c with another wrapper"
-same "$("${run[@]}" "$out/trims" < samples/repeated-target.t35 || true)" "refused: 11, at bit 111" "examples/trims.c with a repeat"
+same "$("${run[@]}" "$out/trims" B5 00 3C || true)" "refused: 3, at byte 2, wrapper" "examples/trims.c with another wrapper"
+same "$("${run[@]}" "$out/trims" < samples/repeated-target.t35 || true)" "refused: 11, at bit 111, target_max_PQ" "examples/trims.c with a repeat"

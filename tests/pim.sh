@@ -15,7 +15,7 @@ stop() {
     exit 1
 }
 
-for program in show unit; do
+for program in show unit why; do
     [ -f "target/bin/$program" ] || stop "there is no target/bin/$program: rt check $program proves and builds it"
 done
 real=$(command -v rt) || stop "there is no command rt"
@@ -60,6 +60,14 @@ says_nothing
 try ./pim unit </dev/null
 status_is 1
 prints samples/other-unit-type.listing
+try ./pim why <samples/out-of-order.t35
+status_is 1
+prints samples/out-of-order.why
+says_nothing
+try ./pim why <samples/one-block.t35
+status_is 0
+prints samples/one-block.why
+says_nothing
 
 # from other folders, by a path from there, by an absolute path and through a link
 cd tests || exit 1
@@ -83,6 +91,7 @@ for words in '' help --help; do
     status_is 0
     prints_word show
     prints_word unit
+    prints_word why
     says_nothing
 done
 

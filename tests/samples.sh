@@ -1,7 +1,8 @@
 #!/usr/bin/env bash
 # The samples: each has its listing, samples/README.md has the bytes and the listing of each, and its program, show for NAME.t35 and
-# unit for NAME.unit, prints exactly the listing, whether the bytes come at once or one by one. Of an input longer than 4,096 bytes
-# show reads the first 4,096, and unit of one longer than 4,097 the first 4,097.
+# unit for NAME.unit, prints exactly the listing, whether the bytes come at once or one by one. Each NAME.t35 has its NAME.why too, which
+# why prints, and which samples/README.md has of each that is refused. Of an input longer than 4,096 bytes show and why read the first
+# 4,096, and unit of one longer than 4,097 the first 4,097.
 # The programs are run by ./pim, which knows how a program is run on this machine.
 set -uo pipefail
 export LC_ALL=C
@@ -18,7 +19,7 @@ stop() {
     exit 1
 }
 
-for program in show unit; do
+for program in show unit why; do
     [ -f "target/bin/$program" ] || stop "there is no target/bin/$program: rt check $program proves and builds it"
 done
 room=$(mktemp -d) || exit 1
@@ -65,7 +66,7 @@ in_pieces() { # FILE
     wait "$pid"
 }
 
-# The lines of a fenced block below the heading '### NAME' of samples/README.md: its first (1) or its second (2).
+# The lines of a fenced block below the heading '### NAME' of samples/README.md: its first (1), its second (2) or its third (3).
 block() { # NAME WHICH
     awk -v name="$1" -v which="$2" '
         /^#/ { here = ($1 == "###" && $2 == name && NF == 2); fences = 0; next }
@@ -79,12 +80,16 @@ for listing in samples/*.listing; do
     for sample in "${its[@]}"; do [ ! -f "$sample" ] || found=$((found + 1)); done
     [ "$found" -eq 1 ] || differs "$listing has $found samples, and not exactly one of ${its[*]}"
 done
+for why in samples/*.why; do
+    [ -f "${why%.why}.t35" ] || differs "$why has no ${why%.why}.t35"
+done
 headings=$(sed -n 's/^### *\([^ ]*\.\(t35\|unit\)\)$/\1/p' samples/README.md)
 for name in $headings; do
     [ -f "samples/$name" ] || differs "samples/README.md has $name, and there is no such file"
 done
 
 payloads=(samples/*.t35) units=(samples/*.unit)
+reasons=()
 [ "${#payloads[@]}" -gt 0 ] || stop "there are no payloads"
 [ "${#units[@]}" -gt 0 ] || stop "there are no units"
 for sample in "${payloads[@]}" "${units[@]}"; do
@@ -114,6 +119,29 @@ for sample in "${payloads[@]}" "${units[@]}"; do
     judge "$sample" "$program" "$listing" $?
     in_pieces "$sample"
     judge "$sample, byte by byte" "$program" "$listing" $?
+
+    # why is for payloads, and gives them the number that show gives; of an accepted one it says no more, and samples/README.md nothing
+    [ "$program" = show ] || continue
+    why=${sample%.*}.why
+    [ -f "$why" ] || {
+        differs "$sample has no $why"
+        continue
+    }
+    [ "$(head -n 1 "$why")" = "result=$result" ] || differs "$why has not the result $result of $listing"
+    block "$name" 3 >"$room/described"
+    if [ "$result" = 0 ]; then
+        [ "$(cat "$why")" = result=0 ] || differs "$why has more than the line result=0"
+        [ ! -s "$room/described" ] || differs "samples/README.md gives $name, which is accepted, a third block"
+    else
+        cmp -s "$room/described" "$why" || differs "samples/README.md does not give $name the lines of $why"
+        reasons[result]=1
+    fi
+    ./pim why <"$sample" >"$room/out"
+    judge "$sample" why "$why" $?
+done
+# Every number that wrapped data can get has a sample.
+for number in 1 2 3 4 5 6 7 9 10 11 12 17 18 19; do
+    [ -n "${reasons[number]:-}" ] || differs "no sample is refused with $number"
 done
 
 # A file that two commands read in turn is read on where the first stopped.
@@ -130,11 +158,14 @@ reads_at_most() { # LIMIT HOW PROGRAM LISTING FILE
 }
 
 # The limit shows in what is left of the input, and in the answer to a payload that is longer.
+# one-block.t35 has 16 bytes, and 64 bits of data.
 echo result=12 >"$room/listing"
+printf 'result=12\noffset=64\nelement=end\nvalue=%s\nallowed=0-0\n' $((4096 - 16)) >"$room/why"
 for size in 4096 5000; do
     cp samples/one-block.t35 "$room/long"
     truncate -s "$size" "$room/long"
     reads_at_most 4096 'one-block.t35 and zero bytes' show "$room/listing" "$room/long"
+    reads_at_most 4096 'one-block.t35 and zero bytes' why "$room/why" "$room/long"
 done
 
 # The bytes of a row of bits.
@@ -165,10 +196,14 @@ for size in 4095 4096 4097; do
     [ "$(wc -c <"$room/long")" -eq "$size" ] || stop "a payload of $size bytes was not made"
     if [ "$size" -le 4096 ]; then
         printf 'result=0\nrefresh=1\nbits=%s\nblocks=0\n' $((8 * (size - 8))) >"$room/listing"
+        echo result=0 >"$room/why"
     else
         echo result=1 >"$room/listing"
+        # its last byte is the last of the last content
+        printf 'result=1\noffset=%s\nelement=ext_dm_alignment_zero_bit\n' $((8 * (4096 - 8))) >"$room/why"
     fi
     reads_at_most 4096 'reserved blocks' show "$room/listing" "$room/long"
+    reads_at_most 4096 'reserved blocks' why "$room/why" "$room/long"
 done
 
 # one-message.unit with a message of type 5 before its own, so long that the unit has this many bytes: two header bytes, the type, a
@@ -196,5 +231,5 @@ for size in 4095 4096 4097 5000; do
 done
 
 [ "$failures" -eq 0 ] || stop "$failures things differ"
-printf 'tests/samples.sh: %s payloads and %s units, at once and byte by byte, and the limits of their programs\n' \
+printf 'tests/samples.sh: %s payloads and %s units, at once and byte by byte, why of each payload, and the limits of their programs\n' \
     "${#payloads[@]}" "${#units[@]}"

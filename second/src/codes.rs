@@ -5,12 +5,13 @@
 
 use crate::compare::Compare;
 use crate::made::{blocks, holding, random_bytes, reserved_level, Rng};
-use crate::plan::{block_plan, own_length, plan, plan_with, reserved, ue};
-use crate::plan::{Answer, BlockPlan, Code, Plan, LARGEST};
+use crate::plan::{block_plan, own_length, plan, plan_with, reserved, too_many, ue};
+use crate::plan::{wrong_length, Answer, BlockPlan, Code, Plan, LARGEST};
 use crate::reader::Refusal;
 use crate::record::{Block, Record};
 use crate::reserved::{accepted, bits_before, refused};
 use crate::runs::{expect, rng};
+use crate::why::Element;
 
 /// Both ends of each place's range and the numbers beside them, the ends of 8, 16,
 /// 31 and 32 bits, and numbers that end in 8, 16 or 31 bits like one that is allowed.
@@ -65,14 +66,15 @@ enum Place {
     ExtBlockLength(u32, usize),
 }
 
-/// A payload, the bits at which the code in question begins and ends, and what
-/// follows from it: the refusal and how many bits decide it, or the record and the
-/// number of blocks passed over.
+/// A payload, the element whose code is in question, the bits at which it begins and
+/// ends, and what follows from it: the refusal and how many bits decide it, or the record
+/// and the number of blocks passed over.
 struct Made {
     plan: Plan,
+    element: Element,
     begins: usize,
     ends: usize,
-    outcome: Result<(Record, usize), (u32, usize)>,
+    outcome: Result<(Record, usize), (Refusal, usize)>,
 }
 
 fn of_level(rng: &mut Rng, level: u32) -> Option<Block> {
@@ -90,14 +92,18 @@ fn made(rng: &mut Rng, place: Place, code: Code, number: Option<u32>) -> Made {
     let mut plan = plan(&list);
     let mut record = holding(&list);
     let mut skipped = 0;
-    let (begins, wrong) = match place {
+    let (element, begins, wrong) = match place {
         Place::AppIdentifier => {
             plan.app_identifier = code;
-            (0, number.filter(|&n| n != 1).map(|_| 4))
+            let element = Element::AppIdentifier;
+            let refusal = |n: u32| Refusal::outside(4, element, 0, n as u64, (1, 1));
+            (element, 0, number.filter(|&n| n != 1).map(refusal))
         }
         Place::AppVersion => {
             plan.app_version = code;
-            (3, number.filter(|&n| n != 0).map(|_| 5))
+            let element = Element::AppVersion;
+            let refusal = |n: u32| Refusal::outside(5, element, 3, n as u64, (0, 0));
+            (element, 3, number.filter(|&n| n != 0).map(refusal))
         }
         Place::NumExtBlocks => {
             let few = number.filter(|&n| n <= 254);
@@ -110,7 +116,8 @@ fn made(rng: &mut Rng, place: Place, code: Code, number: Option<u32>) -> Made {
                 skipped = (n as usize).saturating_sub(1);
             }
             plan.num_ext_blocks = Some(code);
-            (5, number.filter(|&n| n > 254).map(|_| 6))
+            let wrong = number.filter(|&n| n > 254).map(too_many);
+            (Element::NumExtBlocks, 5, wrong)
         }
         Place::ExtBlockLength(level, bit) => {
             // An empty reserved block has nine bits, so that `bit` of them move
@@ -137,19 +144,22 @@ fn made(rng: &mut Rng, place: Place, code: Code, number: Option<u32>) -> Made {
             record = holding(&list);
             let begins = bits_before(&plan, bit);
             assert_eq!(begins % 8, bit);
-            (begins, number.filter(|_| !own).map(|_| 9))
+            let refusal = |n| wrong_length(begins, n, level);
+            let wrong = number.filter(|_| !own).map(refusal);
+            (Element::ExtBlockLength, begins, wrong)
         }
     };
     let ends = begins + 2 * code.zeros as usize + 1;
     let outcome = match (number, wrong) {
-        (None, _) => Err((2, begins + 32)),
+        (None, _) => Err((Refusal::no_code(element, begins), begins + 32)),
         (Some(_), None) => Ok((record, skipped)),
         // A length is judged when its level is known.
-        (Some(_), Some(9)) => Err((9, ends + 8)),
+        (Some(_), Some(refusal)) if refusal.number == 9 => Err((refusal, ends + 8)),
         (Some(_), Some(refusal)) => Err((refusal, ends)),
     };
     Made {
         plan,
+        element,
         begins,
         ends,
         outcome,
@@ -163,14 +173,15 @@ fn compare_one(compare: &mut Compare, one: &Made) -> u64 {
     let data = &payload.bytes;
     let mut cases = match &one.outcome {
         Ok((record, skipped)) => accepted(compare, data, record, *skipped),
-        Err((refusal, _)) => refused(compare, data, *refusal, one.begins),
+        Err((refusal, _)) => refused(compare, data, *refusal),
     };
     let from = one.begins / 8;
     for n in from..data.len().min(from + 20) {
-        let refused_there = |number| Answer::Refused(Refusal::at(number, one.begins));
         let answer = match one.outcome {
-            Err((refusal, bits)) if bits <= 8 * n => refused_there(refusal),
-            _ if (one.begins..one.ends).contains(&(8 * n)) => refused_there(1),
+            Err((refusal, bits)) if bits <= 8 * n => Answer::Refused(refusal),
+            _ if (one.begins..one.ends).contains(&(8 * n)) => {
+                Answer::Refused(Refusal::cut(one.element, one.begins))
+            }
             _ => payload.answer_of_cut(n),
         };
         let number = compare.read(false, &data[..n]);

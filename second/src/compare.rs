@@ -1,7 +1,8 @@
 //! Calls both implementations, and for a reading the reader for speed too, with
 //! the same arguments and compares everything: the result number, every element
 //! of every lent array, the elements around it, and the arguments that are only
-//! read. The first difference ends the program.
+//! read; and of every refused payload the text that says why. The first difference
+//! ends the program.
 //!
 //! Every array that is lent to be written is filled with a pattern first, and
 //! lies between elements that are not lent; so does every single number. Both
@@ -9,11 +10,13 @@
 //! alone must be left alone by the other.
 
 use crate::made::{point_record, Rng};
-use crate::own::{self, BITS, IN_WRAPPER, OFFSET, READING, SKIPPED};
+use crate::own::{self, facts_of, BITS, ELEMENT, HIGHEST, IN_WRAPPER, KIND, LOWEST};
+use crate::own::{NO_VALUE, OFFSET, OTHER, RANGE, READING, SKIPPED, VALUE, VALUE_HIGH};
 use crate::proved;
 use crate::reader::{Refusal, WRAPPER};
 use crate::record::{flat, FLAT, WRAPPED_BYTES};
 use crate::track::{point_from_flat, FLAT_POINT, FLAT_TABLE};
+use crate::why::{Element, ELEMENTS, MOST};
 use crate::writer;
 
 /// The functions of the interface.
@@ -22,6 +25,7 @@ pub enum Function {
     ReadBare,
     ReadWrapped,
     ReadUnit,
+    WhyWrapped,
     WriteBare,
     WriteWrapped,
     WriteUnit,
@@ -35,7 +39,7 @@ pub enum Function {
 /// refusals that 01 and 02 give them, and 13 for an argument of a wrong length.
 /// A unit's message begins with the eight wrapper bytes, so it never gets 3. 8 was
 /// for reserved levels, which are passed over since 02's request b.
-pub const FUNCTIONS: [(Function, &str, &[u32]); 10] = [
+pub const FUNCTIONS: [(Function, &str, &[u32]); 11] = [
     (
         Function::ReadBare,
         "read_bare",
@@ -53,6 +57,7 @@ pub const FUNCTIONS: [(Function, &str, &[u32]); 10] = [
             0, 1, 2, 4, 5, 6, 7, 9, 10, 11, 12, 13, 17, 18, 19, 30, 31, 32, 33,
         ],
     ),
+    (Function::WhyWrapped, "why_wrapped", &[0, 13]),
     (Function::WriteBare, "write_bare", &[0, 13, 14]),
     (Function::WriteWrapped, "write_wrapped", &[0, 13, 14]),
     (Function::WriteUnit, "write_unit", &[0, 13, 14]),
@@ -84,6 +89,108 @@ impl Known {
 
 /// One more than the highest number that a function gives.
 const NUMBERS: usize = 34;
+
+/// The elements that each refusal of wrapped data can name. Every code and every field of
+/// A/341 can be cut off, and so can a bit inside a block. metadata_refresh_flag and
+/// dm_alignment_zero_bit cannot: the flag stands in the first byte, behind four bits that
+/// are there, and zero bits to a byte boundary stand in a byte of which a bit was read.
+const NAMED: [(u32, &[Element]); 14] = [
+    (
+        1,
+        &[
+            Element::AppIdentifier,
+            Element::AppVersion,
+            Element::NumExtBlocks,
+            Element::ExtBlockLength,
+            Element::ExtBlockLevel,
+            Element::MinPq,
+            Element::MaxPq,
+            Element::AvgPq,
+            Element::TargetMaxPq,
+            Element::TrimSlope,
+            Element::TrimOffset,
+            Element::TrimPower,
+            Element::TrimChromaWeight,
+            Element::TrimSaturationGain,
+            Element::MsWeight,
+            Element::ActiveAreaLeftOffset,
+            Element::ActiveAreaRightOffset,
+            Element::ActiveAreaTopOffset,
+            Element::ActiveAreaBottomOffset,
+            Element::ExtDmAlignmentZeroBit,
+            Element::Wrapper,
+        ],
+    ),
+    (
+        2,
+        &[
+            Element::AppIdentifier,
+            Element::AppVersion,
+            Element::NumExtBlocks,
+            Element::ExtBlockLength,
+        ],
+    ),
+    (3, &[Element::Wrapper]),
+    (4, &[Element::AppIdentifier]),
+    (5, &[Element::AppVersion]),
+    (6, &[Element::NumExtBlocks]),
+    (
+        7,
+        &[Element::DmAlignmentZeroBit, Element::ExtDmAlignmentZeroBit],
+    ),
+    (9, &[Element::ExtBlockLength]),
+    (10, &[Element::AvgPq]),
+    (11, &[Element::TargetMaxPq]),
+    (12, &[Element::End]),
+    (17, &[Element::ExtBlockLevel]),
+    (18, &[Element::ExtBlockLevel]),
+    (19, &[Element::ExtBlockLevel]),
+];
+
+type IsForm = fn(number: u32, facts: &[u32; READING]) -> bool;
+
+/// A bit to the byte boundary that is a one, at one of these offsets.
+fn one_at(number: u32, facts: &[u32; READING], offsets: std::ops::Range<u32>) -> bool {
+    number == 7
+        && facts[ELEMENT] == Element::DmAlignmentZeroBit as u32
+        && offsets.contains(&facts[OFFSET])
+}
+
+/// A value of ten digits.
+fn ten_digits(facts: &[u32; READING]) -> bool {
+    facts[VALUE] >= 1_000_000_000
+}
+
+/// Forms that the text of one number and one element can have. Without blocks the bits
+/// to the boundary are some of 5 to 7. Before the first block they are 10 to 15 or later
+/// ones, and behind the blocks 17 or later ones.
+const FORMS: [(&str, IsForm); 17] = [
+    ("7 without blocks", |n, f| one_at(n, f, 0..8)),
+    ("7 before the blocks", |n, f| one_at(n, f, 10..16)),
+    ("7 behind the blocks", |n, f| one_at(n, f, 24..u32::MAX)),
+    ("9 of level 1", |n, f| n == 9 && f[LOWEST] == 5),
+    ("9 of level 2", |n, f| n == 9 && f[LOWEST] == 11),
+    ("9 of level 5", |n, f| n == 9 && f[LOWEST] == 7),
+    ("9 of a reserved level", |n, f| n == 9 && f[LOWEST] == 0),
+    ("10 with min above max", |n, f| {
+        n == 10 && f[LOWEST] > f[HIGHEST]
+    }),
+    ("10 with min and max equal", |n, f| {
+        n == 10 && f[LOWEST] == f[HIGHEST]
+    }),
+    ("10 with avg below min", |n, f| {
+        n == 10 && f[LOWEST] < f[HIGHEST] && f[VALUE] < f[LOWEST]
+    }),
+    ("10 with avg above max", |n, f| {
+        n == 10 && f[LOWEST] < f[HIGHEST] && f[VALUE] > f[HIGHEST]
+    }),
+    ("12 with one byte", |n, f| n == 12 && f[VALUE] == 1),
+    ("12 with more", |n, f| n == 12 && f[VALUE] > 1),
+    ("4 of ten digits", |n, f| n == 4 && ten_digits(f)),
+    ("5 of ten digits", |n, f| n == 5 && ten_digits(f)),
+    ("6 of ten digits", |n, f| n == 6 && ten_digits(f)),
+    ("9 of ten digits", |n, f| n == 9 && ten_digits(f)),
+];
 
 /// A table as it crosses the interface: for each point its picture, then its
 /// flat record. It can have any number of numbers; only 64 points are right.
@@ -171,6 +278,8 @@ const READING_ROOM: usize = 2 * READING + 2 * AROUND;
 /// Room for the longest output that is lent.
 const OUTPUT: usize = 512;
 const OUTPUT_ROOM: usize = OUTPUT + 2 * AROUND;
+/// Room for the longest text that says why.
+const TEXT_ROOM: usize = MOST + 2 * AROUND;
 /// Room for a single number, between others that are not lent.
 const SINGLE_ROOM: usize = 4;
 /// Numbers around a result table that are not lent: a point on each side.
@@ -192,8 +301,16 @@ pub struct Compare {
     /// Readings with reserved blocks whose record, written, was read back to the
     /// same record with none skipped: payloads, and units.
     rewritten: [u64; 2],
-    /// Refusals of which it was known beforehand where, by `Known`.
+    /// Refusals of which it was known beforehand where and why, by `Known`.
     known: [u64; 3],
+    /// Texts, by the number and the element that they name.
+    named: [[u64; ELEMENTS.len() + 1]; NUMBERS],
+    /// Texts of each of FORMS.
+    forms: [u64; FORMS.len()],
+    /// Texts that name a byte of the wrapper, missing and wrong.
+    wrapper_bytes: [[u64; WRAPPER.len()]; 2],
+    /// Texts of accepted inputs.
+    accepted_texts: u64,
     /// The part of the run and the case in it, for a failure's report.
     part: String,
     case: u64,
@@ -208,6 +325,12 @@ pub struct Compare {
     proved_output: [u8; OUTPUT_ROOM],
     own_single: [u32; SINGLE_ROOM],
     proved_single: [u32; SINGLE_ROOM],
+    own_text: [u8; TEXT_ROOM],
+    proved_text: [u8; TEXT_ROOM],
+    /// The wrapped input of a text.
+    text_input: Vec<u8>,
+    /// The text of what is read now was compared already.
+    told: bool,
     /// Copies of what is lent for reading.
     lent_bytes: Vec<u8>,
     lent_record: Vec<i32>,
@@ -245,60 +368,179 @@ fn read_function(wrapped: bool) -> Function {
 }
 
 /// The facts that an answer has: an accepted reading its bits and blocks passed over,
-/// a refused one its place, which 13 and the unit's own refusals have not.
+/// a refused one its place and its element, and but for 1 and 2 what is told of the
+/// value. 13 and the unit's own refusals have none.
 fn facts_given(number: u32) -> &'static [usize] {
     match number {
         0 => &[BITS, SKIPPED],
         13 | 30..=33 => &[],
-        _ => &[OFFSET, IN_WRAPPER],
+        1 | 2 => &[OFFSET, IN_WRAPPER, ELEMENT],
+        11 | 17..=19 => &[OFFSET, IN_WRAPPER, ELEMENT, KIND, VALUE],
+        _ => &[OFFSET, IN_WRAPPER, ELEMENT, KIND, VALUE, LOWEST, HIGHEST],
     }
 }
 
 /// The n bits of the data from this one on, or none where they are not all there.
-fn bits_at(data: &[u8], at: usize, n: usize) -> Option<u64> {
+fn bits_at(data: &[u8], at: usize, n: usize) -> Option<u32> {
     let mut number = 0;
     for bit in at..at + n {
         let byte = data.get(bit / 8)?;
-        number = 2 * number + (byte >> (7 - bit % 8) & 1) as u64;
+        number = 2 * number + (byte >> (7 - bit % 8) & 1) as u32;
     }
     Some(number)
 }
 
+/// The number of the code that begins there, and its bits, or none where there is no
+/// whole one.
+fn code_at(data: &[u8], at: usize) -> Option<(u32, usize)> {
+    let mut zeros = 0;
+    while bits_at(data, at + zeros, 1)? == 0 {
+        zeros += 1;
+        if zeros > 31 {
+            return None;
+        }
+    }
+    let number = (1 << zeros) - 1 + bits_at(data, at + zeros + 1, zeros)?;
+    Some((number, 2 * zeros + 1))
+}
+
+/// The most bits of an element that can be cut off, of others 0.
+fn most_bits(element: u32) -> i64 {
+    match element {
+        // app_identifier, app_version, num_ext_blocks, ext_block_length
+        1 | 2 | 4 | 6 => 63,
+        // ext_block_level
+        7 => 8,
+        // The fields of levels 1 and 2 but for ms_weight
+        8..=16 => 12,
+        // ms_weight, and the fields of level 5
+        17..=21 => 13,
+        // ext_dm_alignment_zero_bit
+        22 => 1,
+        _ => 0,
+    }
+}
+
 /// What must be so where a refusal stands, by its number: all of it in the wrapper, and
 /// in the data as far as it can be said without a reading of what comes before. The
-/// data of a unit is not at hand.
-fn place_fits(function: Function, input: &[u8], refusal: &Refusal) -> bool {
+/// value that the facts tell is looked up there. The data of a unit is not at hand.
+fn reason_fits(function: Function, input: &[u8], number: u32, facts: &[u32; READING]) -> bool {
     let data = match function {
         Function::ReadUnit => None,
         Function::ReadWrapped => {
             let differs = (0..WRAPPER.len()).find(|&i| input.get(i) != Some(&WRAPPER[i]));
-            if let Some(byte) = differs {
-                let number = if byte < input.len() { 3 } else { 1 };
-                return *refusal == Refusal::in_wrapper(number, byte);
+            if let Some(place) = differs {
+                let refusal = match input.get(place) {
+                    Some(&byte) => Refusal::wrapper_byte(place, byte),
+                    None => Refusal::wrapper_cut(place),
+                };
+                return number == refusal.number && *facts == facts_of(&refusal);
             }
             Some(&input[WRAPPER.len()..])
         }
         _ => Some(input),
     };
-    let at = refusal.offset as usize;
+    let at = facts[OFFSET] as usize;
+    let element = facts[ELEMENT];
+    let value = facts[VALUE];
+    let allowed = (facts[LOWEST], facts[HIGHEST]);
     let left = data.map(|data| 8 * data.len() as i64 - at as i64);
-    let bits_are = |n, bits| data.map_or(true, |data| bits_at(data, at, n) == Some(bits));
-    !refusal.in_wrapper
-        && match refusal.number {
-            // An element has 63 bits at most, and one of them at least is missing.
-            1 => left.map_or(true, |left| (0..63).contains(&left)),
-            2 => bits_are(32, 0),
-            4 => at == 0,
-            5 => at == 3,
-            6 => at == 5,
-            7 => bits_are(1, 1),
-            // A length and a level, which in a known block are these.
-            9 => at >= 8 && left.map_or(true, |left| left >= 9),
-            10 | 17 => at >= 8 && bits_are(13, 0b00110_00000001),
-            18 => at >= 8 && bits_are(15, 0b0001000_00000101),
-            11 | 19 => at >= 8 && bits_are(15, 0b0001100_00000010),
-            12 => at % 8 == 0 && left.map_or(true, |left| left >= 8),
-            30..=33 => at == 0,
+    let bits_are = |at, n, bits| data.map_or(true, |data| bits_at(data, at, n) == Some(bits));
+    let is_the_code = || {
+        data.map_or(true, |data| {
+            code_at(data, at).map(|code| code.0) == Some(value)
+        })
+    };
+    let is = |name: Element| element == name as u32;
+    let kind = match number {
+        1 | 2 | 30..=33 => NO_VALUE,
+        11 | 17..=19 => OTHER,
+        _ => RANGE,
+    };
+    facts[IN_WRAPPER] == 0
+        && facts[KIND] == kind
+        && facts[VALUE_HIGH] == 0
+        && match number {
+            // One of the element's bits at least is missing.
+            1 => {
+                let is_place = match element {
+                    1 => at == 0,
+                    2 => at == 3,
+                    4 => at == 5,
+                    _ => at >= 8,
+                };
+                let most = most_bits(element);
+                is_place && most > 0 && left.map_or(true, |left| (0..most).contains(&left))
+            }
+            2 => most_bits(element) == 63 && bits_are(at, 32, 0),
+            4 => is(Element::AppIdentifier) && at == 0 && allowed == (1, 1) && is_the_code(),
+            5 => is(Element::AppVersion) && at == 3 && allowed == (0, 0) && is_the_code(),
+            6 => is(Element::NumExtBlocks) && at == 5 && allowed == (0, 254) && is_the_code(),
+            7 => {
+                (is(Element::DmAlignmentZeroBit) || is(Element::ExtDmAlignmentZeroBit))
+                    && value == 1
+                    && allowed == (0, 0)
+                    && bits_are(at, 1, 1)
+            }
+            // A length and the level behind it.
+            9 => {
+                let of_level = |level| match level {
+                    1 => (5, 5),
+                    2 => (11, 11),
+                    5 => (7, 7),
+                    _ => (0, 1023),
+                };
+                let by_level = data.map_or(true, |data| match code_at(data, at) {
+                    Some((length, bits)) => {
+                        let level = bits_at(data, at + bits, 8);
+                        length == value && level.map(of_level) == Some(allowed)
+                    }
+                    None => false,
+                });
+                is(Element::ExtBlockLength) && at >= 8 && by_level && value != allowed.0
+            }
+            // A length and a level, which in a known block are these, then its fields.
+            10 => {
+                is(Element::AvgPq)
+                    && at >= 8
+                    && bits_are(at, 13, 0b00110_00000001)
+                    && bits_are(at + 13, 12, allowed.0)
+                    && bits_are(at + 25, 12, allowed.1)
+                    && bits_are(at + 37, 12, value)
+                    && (value < allowed.0 || value > allowed.1)
+            }
+            11 => {
+                is(Element::TargetMaxPq)
+                    && at >= 8
+                    && bits_are(at, 15, 0b0001100_00000010)
+                    && bits_are(at + 15, 12, value)
+            }
+            17 => {
+                is(Element::ExtBlockLevel)
+                    && value == 1
+                    && at >= 8
+                    && bits_are(at, 13, 0b00110_00000001)
+            }
+            18 => {
+                is(Element::ExtBlockLevel)
+                    && value == 5
+                    && at >= 8
+                    && bits_are(at, 15, 0b0001000_00000101)
+            }
+            19 => {
+                is(Element::ExtBlockLevel)
+                    && value == 2
+                    && at >= 8
+                    && bits_are(at, 15, 0b0001100_00000010)
+            }
+            12 => {
+                is(Element::End)
+                    && at % 8 == 0
+                    && allowed == (0, 0)
+                    && value >= 1
+                    && left.map_or(true, |left| left == 8 * value as i64)
+            }
+            30..=33 => at == 0 && element == 0,
             _ => false,
         }
 }
@@ -348,6 +590,31 @@ fn points(table: &[i32], count: usize) -> String {
     text
 }
 
+/// The facts of a reading with their names.
+pub fn in_words(facts: &[u32]) -> String {
+    let element = match facts[ELEMENT] as usize {
+        0 => "none",
+        n => ELEMENTS
+            .get(n - 1)
+            .map_or("of no name", |element| element.1),
+    };
+    format!(
+        "{} bits, {} skipped, offset {}, in the wrapper {}, element {} ({}), kind {}, value {} \
+         (upper half {}), allowed {} to {}",
+        facts[BITS],
+        facts[SKIPPED],
+        facts[OFFSET],
+        facts[IN_WRAPPER],
+        facts[ELEMENT],
+        element,
+        facts[KIND],
+        facts[VALUE],
+        facts[VALUE_HIGH],
+        facts[LOWEST],
+        facts[HIGHEST]
+    )
+}
+
 fn first_difference<T: PartialEq + std::fmt::Debug>(
     what: &str,
     around: usize,
@@ -385,6 +652,10 @@ impl Compare {
             round_trips: [0; 3],
             rewritten: [0; 2],
             known: [0; 3],
+            named: [[0; ELEMENTS.len() + 1]; NUMBERS],
+            forms: [0; FORMS.len()],
+            wrapper_bytes: [[0; WRAPPER.len()]; 2],
+            accepted_texts: 0,
             part: String::new(),
             case: 0,
             pattern: 1,
@@ -398,6 +669,10 @@ impl Compare {
             proved_output: [0; OUTPUT_ROOM],
             own_single: [0; SINGLE_ROOM],
             proved_single: [0; SINGLE_ROOM],
+            own_text: [0; TEXT_ROOM],
+            proved_text: [0; TEXT_ROOM],
+            text_input: Vec::new(),
+            told: false,
             lent_bytes: Vec::new(),
             lent_record: Vec::new(),
             lent_a: Vec::new(),
@@ -525,6 +800,14 @@ impl Compare {
         number
     }
 
+    /// Reads data behind the wrapper that was just read bare, and so has had its text.
+    pub fn read_behind_wrapper(&mut self, data: &[u8]) -> u32 {
+        self.told = true;
+        let number = self.read(true, &[&WRAPPER[..], data].concat());
+        self.told = false;
+        number
+    }
+
     /// Reads into a record and into facts of any length.
     pub fn read_lent(
         &mut self,
@@ -616,8 +899,9 @@ impl Compare {
                 facts_after[AROUND + given] = self.own_reading[AROUND + given];
             }
         }
-        let refusal = self.refusal(own_number);
-        let fits = own_number == 0 || own_number == 13 || place_fits(function, input, &refusal);
+        let fits = own_number == 0
+            || own_number == 13
+            || reason_fits(function, input, own_number, &self.all_facts());
         if own_number != proved_number
             || self.own_record != self.proved_record
             || self.own_reading != self.proved_reading
@@ -657,7 +941,142 @@ impl Compare {
             );
         }
         self.count(function, own_number);
+        if function != Function::ReadUnit && own_number != 13 && !self.told {
+            self.why(function, input, own_number);
+        }
         own_number
+    }
+
+    /// The text that says why, of every refused input, a bare one behind the wrapper, and
+    /// of some accepted ones. Its facts are those of the last reading.
+    fn why(&mut self, function: Function, input: &[u8], number: u32) {
+        if number == 0 && self.case % 16 != 0 {
+            return;
+        }
+        self.text_input.clear();
+        if function == Function::ReadBare {
+            self.text_input.extend_from_slice(&WRAPPER);
+        }
+        self.text_input.extend_from_slice(input);
+        let written = match self.why_lent(MOST) {
+            (0, written) => written as usize,
+            answer => self.fail_why(MOST, &format!("{:?}: a longest text does not fit", answer)),
+        };
+        let first_line = format!("result={}\n", number);
+        if !self.own_text[AROUND..].starts_with(first_line.as_bytes()) {
+            self.fail_why(MOST, "the text is of another number than the reading");
+        }
+        // Too short by a byte, by more, and of the very length.
+        match self.case % 32 {
+            0 => self.why_short(written - 1),
+            11 => self.why_short(self.pattern as usize % written),
+            22 => self.why_exact(written),
+            _ => {}
+        }
+        self.count_text(number);
+    }
+
+    /// The text of wrapped data, in which both agree.
+    pub fn text(&mut self, input: &[u8]) -> String {
+        self.text_input.clear();
+        self.text_input.extend_from_slice(input);
+        let written = self.why_lent(MOST).1 as usize;
+        String::from_utf8_lossy(&self.own_text[AROUND..AROUND + written]).into_owned()
+    }
+
+    fn why_short(&mut self, out_len: usize) {
+        if self.why_lent(out_len).0 != 13 {
+            self.fail_why(out_len, "the text is longer, and not refused with 13");
+        }
+    }
+
+    fn why_exact(&mut self, out_len: usize) {
+        if self.why_lent(out_len) != (0, out_len as u32) {
+            self.fail_why(out_len, "the text does not fit into its own length");
+        }
+    }
+
+    /// Both texts in an output of this length, and the number of the bytes written.
+    fn why_lent(&mut self, out_len: usize) -> (u32, u32) {
+        let mut value = self.pattern;
+        for byte in self.own_text.iter_mut() {
+            value = value.wrapping_add(0x9E37_79B9);
+            *byte = (value >> 24) as u8;
+        }
+        self.proved_text = self.own_text;
+        let mut own_written = [!self.pattern; 3];
+        let mut proved_written = own_written;
+        self.lent_bytes.clear();
+        self.lent_bytes.extend_from_slice(&self.text_input);
+        let lent = AROUND..AROUND + out_len;
+        let own_number = own::why_wrapped(
+            &self.text_input,
+            &mut self.own_text[lent.clone()],
+            &mut own_written[1],
+        );
+        let proved_number = proved::why_wrapped(
+            &self.lent_bytes,
+            &mut self.proved_text[lent],
+            &mut proved_written[1],
+        );
+        if own_number != proved_number
+            || self.own_text != self.proved_text
+            || own_written != proved_written
+            || self.lent_bytes != self.text_input
+        {
+            self.fail_why(
+                out_len,
+                &format!(
+                    "own: result {}, written {:?}; proved: result {}, written {:?}\n{}{}",
+                    own_number,
+                    own_written,
+                    proved_number,
+                    proved_written,
+                    first_difference("output", AROUND, &self.own_text, &self.proved_text),
+                    changed("the input", &self.text_input, &self.lent_bytes)
+                ),
+            );
+        }
+        self.count(Function::WhyWrapped, own_number);
+        (own_number, own_written[1])
+    }
+
+    /// Reports a difference in a text and ends the program.
+    fn fail_why(&self, out_len: usize, answers: &str) -> ! {
+        let shown = |text: &[u8; TEXT_ROOM]| {
+            String::from_utf8_lossy(&text[AROUND..AROUND + out_len]).into_owned()
+        };
+        self.fail(
+            FUNCTIONS[Function::WhyWrapped as usize].1,
+            &format!(
+                "input ({} bytes): {}\noutput of {} bytes",
+                self.text_input.len(),
+                hex(&self.text_input),
+                out_len
+            ),
+            &format!(
+                "{}\nown:\n{:?}\nproved:\n{:?}",
+                answers,
+                shown(&self.own_text),
+                shown(&self.proved_text)
+            ),
+        )
+    }
+
+    /// What the text named, by the facts of the last reading.
+    fn count_text(&mut self, number: u32) {
+        if number == 0 {
+            self.accepted_texts += 1;
+            return;
+        }
+        let facts = self.all_facts();
+        self.named[number as usize][facts[ELEMENT] as usize] += 1;
+        for (i, (_, is_form)) in FORMS.iter().enumerate() {
+            self.forms[i] += is_form(number, &facts) as u64;
+        }
+        if facts[IN_WRAPPER] == 1 {
+            self.wrapper_bytes[(number == 3) as usize][facts[OFFSET] as usize] += 1;
+        }
     }
 
     /// The same reading by the reader for speed.
@@ -685,20 +1104,14 @@ impl Compare {
             ("proved", &self.proved_reading),
             ("rival", &self.rival_reading),
         ] {
-            text.push_str(&format!(
-                "  facts of {}: {} bits, {} skipped, offset {}, in the wrapper {}\n",
-                name,
-                facts[AROUND + BITS],
-                facts[AROUND + SKIPPED],
-                facts[AROUND + OFFSET],
-                facts[AROUND + IN_WRAPPER]
-            ));
+            let lent = &facts[AROUND..AROUND + READING];
+            text.push_str(&format!("  facts of {}: {}\n", name, in_words(lent)));
         }
         if self.own_reading != *after {
             text.push_str("  a fact that this answer does not give is not 0, or was not lent\n");
         }
         if !fits {
-            text.push_str("  what stands at the offset cannot get this number\n");
+            text.push_str("  what stands at the offset cannot get this number for this reason\n");
         }
         text.push_str(&first_difference(
             "facts",
@@ -724,13 +1137,9 @@ impl Compare {
         self.own_reading[AROUND + SKIPPED]
     }
 
-    /// Where the last reading was refused, with this number.
-    pub fn refusal(&self, number: u32) -> Refusal {
-        Refusal {
-            number,
-            offset: self.own_reading[AROUND + OFFSET],
-            in_wrapper: self.own_reading[AROUND + IN_WRAPPER] == 1,
-        }
+    /// The facts of the last reading, with their names.
+    pub fn facts_text(&self) -> String {
+        in_words(&self.all_facts())
     }
 
     /// The facts of the last reading.
@@ -1247,7 +1656,8 @@ impl Compare {
             self.rewritten[0], self.rewritten[1]
         );
         println!(
-            "  refusals of which it was known where: {} in the data, {} in the wrapper, {} in units",
+            "  refusals of which it was known where and why: {} in the data, {} in the wrapper, \
+             {} in units",
             self.known[0], self.known[1], self.known[2]
         );
         for count in [
@@ -1261,6 +1671,45 @@ impl Compare {
                 complete = false;
             }
         }
-        complete
+        complete & self.report_texts()
+    }
+
+    /// Prints how often the texts named each element, and how often they had each form.
+    /// Fails if one that can occur did not, or one did that cannot.
+    fn report_texts(&self) -> bool {
+        let mut complete = self.accepted_texts > 0;
+        println!("how often a text named each element, by the refusal's number:");
+        println!("  0: {} texts of accepted inputs", self.accepted_texts);
+        for (number, counts) in self.named.iter().enumerate() {
+            let possible: Vec<usize> = NAMED
+                .iter()
+                .filter(|(its_number, _)| *its_number as usize == number)
+                .flat_map(|(_, elements)| elements.iter().map(|&element| element as usize))
+                .collect();
+            let mut text = String::new();
+            for (element, &times) in counts.iter().enumerate() {
+                if possible.contains(&element) != (times > 0) {
+                    complete = false;
+                }
+                if possible.contains(&element) || times > 0 {
+                    let name = element.checked_sub(1).map_or("none", |i| ELEMENTS[i].1);
+                    text.push_str(&format!("  {}:{}", name, times));
+                }
+            }
+            if !text.is_empty() {
+                println!("  {}:{}", number, text);
+            }
+        }
+        println!("how often a text had each form:");
+        for ((name, _), times) in FORMS.iter().zip(self.forms) {
+            println!("  {}: {}", name, times);
+        }
+        for (name, counts) in ["missing", "wrong"].iter().zip(&self.wrapper_bytes) {
+            println!(
+                "  {} bytes of the wrapper, from its first: {:?}",
+                name, counts
+            );
+        }
+        complete && !self.forms.contains(&0) && !self.wrapper_bytes.concat().contains(&0)
     }
 }

@@ -4,6 +4,7 @@ use crate::plan::{is_reserved, own_length, plan, reserved, ue};
 use crate::plan::{Answer, BlockPlan, Code, Payload, Plan, LARGEST};
 use crate::reader::{Refusal, WRAPPER};
 use crate::record::{flat, Block, Record, EMPTY, FLAT, FLAT_BLOCK, LEVEL_2_BLOCKS, PLACES};
+use crate::why::Element;
 
 /// splitmix64
 pub struct Rng {
@@ -960,20 +961,20 @@ pub fn wrapped(kind: WrapperKind, data: &Payload, rng: &mut Rng) -> (Vec<u8>, An
         WrapperKind::OneByteDiffers => {
             bytes.extend_from_slice(&data.bytes);
             let at = spoil_wrapper(rng, &mut bytes);
-            Answer::Refused(Refusal::in_wrapper(3, at))
+            Answer::Refused(Refusal::wrapper_byte(at, bytes[at]))
         }
         WrapperKind::ByteDiffersThenEnd => {
             let at = spoil_wrapper(rng, &mut bytes);
             bytes.truncate(at + 1 + rng.below(WRAPPER.len() - at));
-            Answer::Refused(Refusal::in_wrapper(3, at))
+            Answer::Refused(Refusal::wrapper_byte(at, bytes[at]))
         }
         WrapperKind::Cut => {
             let n = rng.below(WRAPPER.len());
             bytes.truncate(n);
-            Answer::Refused(Refusal::in_wrapper(1, n))
+            Answer::Refused(Refusal::wrapper_cut(n))
         }
         // The wrapper is whole, and the data is missing.
-        WrapperKind::Alone => Answer::Refused(Refusal::at(1, 0)),
+        WrapperKind::Alone => Answer::Refused(Refusal::cut(Element::AppIdentifier, 0)),
     };
     (bytes, answer)
 }

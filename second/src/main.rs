@@ -1,6 +1,6 @@
-//! An independent second implementation of the record, its reader and writer,
-//! the units, the shader numbers and the tracks, written from 01, 02, A/341 and
-//! H.265 alone, and its comparison with the proved library. See README.md.
+//! An independent second implementation of the record, its reader and writer, the
+//! text that says why, the units, the shader numbers and the tracks, written from 01,
+//! 02, A/341 and H.265 alone, and its comparison with the proved library. See README.md.
 
 // The entry is C's `main`, not Rust's. Before Rust's `main` the runtime asks
 // for the bounds of the stack, glibc reads /proc/self/maps for it, and the
@@ -25,16 +25,20 @@ mod shader;
 mod track;
 mod unit;
 mod units;
+mod why;
 mod writer;
 
 use bench::Implementation;
 use compare::Compare;
+use std::io::{self, Read as _, Write as _};
 use std::os::raw::{c_char, c_int};
 
 /// Joins and lookups of one round, at least.
 const JOINS_AND_LOOKUPS: u64 = 110_000;
 /// Rounds of `second many`.
 const MANY: u64 = 100;
+/// "of a longer input the first 4,096 bytes" (01, of show, whose input `why` takes).
+const INPUT_LIMIT: u64 = 4096;
 
 fn usage() -> c_int {
     eprintln!("usage: second            compares, one round");
@@ -45,6 +49,7 @@ fn usage() -> c_int {
     eprintln!("       second stack OP IMPL");
     eprintln!("         OP   {}", bench::STACK_OPERATIONS.join(", "));
     eprintln!("       second sizes");
+    eprintln!("       second why        prints why wrapped data from standard input is refused");
     2
 }
 
@@ -88,8 +93,27 @@ pub extern "C" fn main(_argc: c_int, _argv: *const *const c_char) -> c_int {
             println!("{}", bench::sizes());
             0
         }
+        ["why"] => match why_standard_input() {
+            Ok(()) => 0,
+            Err(error) => {
+                eprintln!("second why: {}", error);
+                2
+            }
+        },
         _ => usage(),
     }
+}
+
+/// 02, f: "A program takes show's input and prints [..] key=value lines".
+fn why_standard_input() -> io::Result<()> {
+    let mut input = Vec::new();
+    io::stdin()
+        .lock()
+        .take(INPUT_LIMIT)
+        .read_to_end(&mut input)?;
+    let text = why::text(&reader::read_wrapped(&input));
+    io::stdout().write_all(text.as_bytes())?;
+    io::stdout().flush()
 }
 
 fn compare_all(rounds: u64) -> c_int {
@@ -152,7 +176,7 @@ fn compare_all(rounds: u64) -> c_int {
         );
     }
     if !compare.report() {
-        println!("FAILED: an answer that can occur did not");
+        println!("FAILED: an answer or a reason that can occur did not, or one that cannot did");
         return 1;
     }
     println!("no difference");

@@ -1,7 +1,7 @@
 //! This program's own answers behind the interface of the proved archive
 //! (`proved.rs` has the same functions with the same arguments): flat records,
 //! flat tables, a result number, and lent arrays that stay as they were on a
-//! refusal, but for the facts of a reading, which then say where.
+//! refusal, but for the facts of a reading, which then say where and why.
 //!
 //! Two rules belong to that interface and not to 01. An argument of a wrong
 //! length is refused with 13 before everything else: a record, the facts of a
@@ -17,18 +17,57 @@ use crate::shader;
 use crate::track::{self, point_from_flat, table_to_flat, Point};
 use crate::track::{CLEARED, FLAT_POINT, FLAT_TABLE, POINTS};
 use crate::unit;
+use crate::why::{self, Told};
 use crate::writer;
 
 /// The facts of a reading: the bits read, the number of blocks that were passed over,
-/// and of a refusal its offset and whether that is one in the wrapper.
-pub const READING: usize = 4;
+/// and of a refusal its offset, whether that is one in the wrapper, the number of its
+/// element, what is told of a value, the value by halves of 32 bits, and the lowest and
+/// the highest that is allowed.
+pub const READING: usize = 10;
 pub const BITS: usize = 0;
 pub const SKIPPED: usize = 1;
 pub const OFFSET: usize = 2;
 pub const IN_WRAPPER: usize = 3;
+pub const ELEMENT: usize = 4;
+pub const KIND: usize = 5;
+pub const VALUE: usize = 6;
+pub const VALUE_HIGH: usize = 7;
+pub const LOWEST: usize = 8;
+pub const HIGHEST: usize = 9;
+
+/// The kinds: no value is told, allowed is from the lowest to the highest, and allowed
+/// are others than those met.
+pub const NO_VALUE: u32 = 0;
+pub const RANGE: u32 = 1;
+pub const OTHER: u32 = 2;
+
+/// The facts of a refused reading.
+pub fn facts_of(refusal: &Refusal) -> [u32; READING] {
+    let mut facts = [0; READING];
+    facts[OFFSET] = refusal.offset;
+    facts[IN_WRAPPER] = refusal.is_in_wrapper() as u32;
+    facts[ELEMENT] = refusal.element.map_or(0, |element| element as u32);
+    let (kind, value) = match refusal.told {
+        Told::Nothing => (NO_VALUE, 0),
+        Told::Range { value, .. } => (RANGE, value),
+        Told::Other { value } => (OTHER, value),
+    };
+    facts[KIND] = kind;
+    facts[VALUE] = value as u32;
+    facts[VALUE_HIGH] = (value >> 32) as u32;
+    if let Told::Range {
+        lowest, highest, ..
+    } = refusal.told
+    {
+        facts[LOWEST] = lowest;
+        facts[HIGHEST] = highest;
+    }
+    facts
+}
 
 /// What a reader answers, given to the arrays. A refusal leaves the record as it
-/// was; of the facts it gives the last two, and an accepted input the first two, and
+/// was; of the facts it gives all but the first two, and an accepted input those, and
 /// the others are zeros. An array of facts that has not its length is left alone.
 fn give_read(
     read: impl Fn(&[u8]) -> Result<Reading, Refusal>,
@@ -51,8 +90,7 @@ fn give_read(
             0
         }
         Err(refusal) => {
-            facts[OFFSET] = refusal.offset;
-            facts[IN_WRAPPER] = refusal.in_wrapper as u32;
+            facts.copy_from_slice(&facts_of(&refusal));
             refusal.number
         }
     }
@@ -131,6 +169,18 @@ pub fn write_unit(record: &[i32], out: &mut [u8], written: &mut u32) -> u32 {
         Some(named) => give_number(unit::write_unit(&named, out), written),
         None => 14,
     }
+}
+
+/// The text of `why` in the first bytes of the output. 13 where that is shorter.
+#[inline(never)]
+pub fn why_wrapped(input: &[u8], out: &mut [u8], written: &mut u32) -> u32 {
+    let text = why::text(&reader::read_wrapped(input));
+    if out.len() < text.len() {
+        return 13;
+    }
+    out[..text.len()].copy_from_slice(text.as_bytes());
+    *written = text.len() as u32;
+    0
 }
 
 #[inline(never)]

@@ -1,11 +1,12 @@
 //! Plans of payloads: the elements of 01's syntax one after the other, each of which
 //! can be made wrong. A plan has its own bit writer, for it has to write what
 //! `writer.rs` must never write. The writer notes where each element begins and what
-//! is the first thing wrong, so what a payload must get, and where (02, e), follows
-//! from its plan and not from reading it.
+//! is the first thing wrong, so what a payload must get, where (02, e) and why (02, f),
+//! follows from its plan and not from reading it.
 
 use crate::reader::Refusal;
 use crate::record::{Block, LEVEL_2_BLOCKS};
+use crate::why::{Element, Told, LEVEL_1, LEVEL_2, LEVEL_5};
 
 /// "Up to 254 blocks may be announced", and a reserved block is skipped "up to
 /// 1,023 bytes" (02, b).
@@ -92,6 +93,41 @@ pub fn own_length(level: u32) -> Option<u32> {
         5 => Some(7),
         _ => None,
     }
+}
+
+/// The lowest and the highest length of a level.
+pub fn lengths(level: u32) -> (u32, u32) {
+    match own_length(level) {
+        Some(own) => (own, own),
+        None => (0, MOST_SKIPPED_BYTES),
+    }
+}
+
+/// The length of the block that begins at this bit is not one of its level.
+pub fn wrong_length(begins: usize, length: u32, level: u32) -> Refusal {
+    let allowed = lengths(level);
+    Refusal::outside(9, Element::ExtBlockLength, begins, length as u64, allowed)
+}
+
+/// num_ext_blocks, which always begins at bit 5, is above 254.
+pub fn too_many(announced: u32) -> Refusal {
+    let allowed = (0, MOST_ANNOUNCED);
+    Refusal::outside(6, Element::NumExtBlocks, 5, announced as u64, allowed)
+}
+
+/// The name of a level's i-th field. What stands in a block of another level, or behind
+/// its fields, is no field of A/341's.
+fn field_of(level: u32, i: usize) -> Element {
+    let fields: &[Element] = match level {
+        1 => &LEVEL_1,
+        2 => &LEVEL_2,
+        5 => &LEVEL_5,
+        _ => &[],
+    };
+    fields
+        .get(i)
+        .copied()
+        .unwrap_or(Element::ExtDmAlignmentZeroBit)
 }
 
 pub fn is_reserved(level: u32) -> bool {
@@ -212,6 +248,7 @@ struct Span {
     begins: usize,
     ends: usize,
     what: What,
+    element: Element,
 }
 
 /// The payload of a plan, and what it must get.
@@ -254,10 +291,10 @@ impl Payload {
         self.answer == Answer::Accepted && self.elements_end.is_none()
     }
 
-    /// The element that begins there is refused, as so many bits decide.
-    fn refuse(&mut self, number: u32, begins: usize, decided: usize) {
+    /// This is refused, as so many bits decide.
+    fn refuse(&mut self, refusal: Refusal, decided: usize) {
         if self.is_read() {
-            self.answer = Answer::Refused(Refusal::at(number, begins));
+            self.answer = Answer::Refused(refusal);
             self.decided = decided;
         }
     }
@@ -296,62 +333,63 @@ impl Payload {
     }
 
     /// What was written from there on.
-    fn span(&mut self, begins: usize, what: What) {
+    fn span(&mut self, begins: usize, what: What, element: Element) {
         match self.spans.last_mut() {
-            Some(last) if last.what == what && what != What::Element => last.ends = self.bits,
+            Some(last) if last.what == what && last.element == element && what != What::Element => {
+                last.ends = self.bits
+            }
             _ => self.spans.push(Span {
                 begins,
                 ends: self.bits,
                 what,
+                element,
             }),
         }
     }
 
-    fn field(&mut self, value: u32, width: u32, what: What) {
+    fn field(&mut self, value: u32, width: u32, what: What, element: Element) {
         let begins = self.bits;
         self.number(value as u64, width);
-        self.span(begins, what);
+        self.span(begins, what, element);
     }
 
     /// A code; gives the bit at which it begins.
-    fn code(&mut self, code: Code) -> usize {
+    fn code(&mut self, code: Code, element: Element) -> usize {
         let begins = self.bits;
         self.number(0, code.zeros);
         self.bit(1);
         self.number(code.rest, code.zeros);
-        self.span(begins, What::Element);
+        self.span(begins, What::Element, element);
         if code.zeros > 31 {
-            self.refuse(2, begins, begins + 32);
+            self.refuse(Refusal::no_code(element, begins), begins + 32);
         }
         begins
     }
 
     /// n zero bits; with `one`, the bit of that place (modulo n) is a one.
-    fn zeros(&mut self, n: usize, one: Option<usize>, what: What) {
+    fn zeros(&mut self, n: usize, one: Option<usize>, what: What, element: Element) {
         for i in 0..n {
             let begins = self.bits;
             let wrong = matches!(one, Some(place) if place % n == i);
-            self.field(wrong as u32, 1, what);
+            self.field(wrong as u32, 1, what, element);
             if wrong && what == What::ZeroBits {
-                self.refuse(7, begins, self.bits);
+                self.refuse(Refusal::one(element, begins), self.bits);
             }
         }
     }
 
     fn zeros_to_byte(&mut self, one: Option<usize>) {
-        self.zeros((8 - self.bits % 8) % 8, one, What::ZeroBits);
+        let n = (8 - self.bits % 8) % 8;
+        self.zeros(n, one, What::ZeroBits, Element::DmAlignmentZeroBit);
     }
 
     fn block(&mut self, block: &BlockPlan, earlier: &[BlockPlan]) {
-        let begins = self.code(block.length);
-        self.field(block.level, 8, What::Element);
+        let begins = self.code(block.length, Element::ExtBlockLength);
+        self.field(block.level, 8, What::Element, Element::ExtBlockLevel);
         let length = block.length.number();
-        let allowed = match own_length(block.level) {
-            Some(own) => length == own as u64,
-            None => length <= MOST_SKIPPED_BYTES as u64,
-        };
-        if !allowed {
-            self.refuse(9, begins, self.bits);
+        let (lowest, highest) = lengths(block.level);
+        if length < lowest as u64 || length > highest as u64 {
+            self.refuse(wrong_length(begins, length as u32, block.level), self.bits);
         }
         let field_bits: u32 = block.fields.iter().map(|field| field.1).sum();
         if field_bits as u64 + block.zeros as u64 != length.saturating_mul(8) {
@@ -362,13 +400,14 @@ impl Payload {
         } else {
             (What::Element, What::ZeroBits)
         };
-        for &(value, width) in &block.fields {
-            self.field(value, width, fields);
+        for (i, &(value, width)) in block.fields.iter().enumerate() {
+            self.field(value, width, fields, field_of(block.level, i));
         }
-        self.zeros(block.zeros, block.one, zeros);
+        let element = Element::ExtDmAlignmentZeroBit;
+        self.zeros(block.zeros, block.one, zeros, element);
         if self.is_read() {
-            if let Some(number) = fault_of(block, earlier) {
-                self.refuse(number, begins, self.bits);
+            if let Some(refusal) = fault_of(block, earlier, begins) {
+                self.refuse(refusal, self.bits);
             }
         }
     }
@@ -379,10 +418,11 @@ impl Payload {
         if let Some(first) = self.elements_end.take() {
             let boundary = (first + 7) / 8 * 8;
             if let Some(bit) = (first..boundary).find(|&bit| self.is_one(bit)) {
-                self.refuse(7, bit, bit + 1);
+                self.refuse(Refusal::one(Element::DmAlignmentZeroBit, bit), bit + 1);
             }
             if 8 * self.bytes.len() > boundary {
-                self.refuse(12, boundary, boundary + 8);
+                let left_over = self.bytes.len() - boundary / 8;
+                self.refuse(Refusal::left_over(boundary, left_over), boundary + 8);
             }
         }
     }
@@ -391,9 +431,10 @@ impl Payload {
         self.spans.iter().find(|span| bit < span.ends).unwrap()
     }
 
-    /// Whether the bit must be 0, in a payload that is accepted.
-    pub fn is_zero_bit(&self, bit: usize) -> bool {
-        self.span_at(bit).what == What::ZeroBits
+    /// The name of the bit if it must be 0, in a payload that is accepted.
+    pub fn zero_bit(&self, bit: usize) -> Option<Element> {
+        let span = self.span_at(bit);
+        (span.what == What::ZeroBits).then_some(span.element)
     }
 
     /// What the first n bytes must get: what they decide, or else 1 at the element of
@@ -403,6 +444,13 @@ impl Payload {
         match self.answer {
             Answer::Unknown => Answer::Unknown,
             Answer::Accepted if n == self.bytes.len() => Answer::Accepted,
+            // Fewer bytes are left over, and as many at least as decide it.
+            Answer::Refused(Refusal {
+                number: 12, offset, ..
+            }) if self.decided <= bits => {
+                let left_over = n - offset as usize / 8;
+                Answer::Refused(Refusal::left_over(offset as usize, left_over))
+            }
             Answer::Refused(refusal) if self.decided <= bits => Answer::Refused(refusal),
             // Cut where bytes were left over.
             Answer::Refused(Refusal {
@@ -414,7 +462,7 @@ impl Payload {
                     What::Element => span.begins,
                     What::ZeroBits | What::SkippedBits => bits,
                 };
-                Answer::Refused(Refusal::at(1, begins))
+                Answer::Refused(Refusal::cut(span.element, begins))
             }
         }
     }
@@ -422,30 +470,52 @@ impl Payload {
     /// The first n bytes.
     pub fn cut(mut self, n: usize) -> Payload {
         let answer = self.answer_of_cut(n);
-        if answer != self.answer {
-            self.answer = answer;
+        if answer.number() != self.answer.number() {
             self.decided = 8 * n;
         }
+        self.answer = answer;
         self.bytes.truncate(n);
         self
     }
 }
 
-/// The refusal of a whole block behind these: 10, or which repeat it is. "If 11 and 19
-/// both apply, 19 comes first" (02, e).
-fn fault_of(block: &BlockPlan, earlier: &[BlockPlan]) -> Option<u32> {
+/// The refusal of a whole block behind these, which begins at this bit: 10, or which
+/// repeat it is. "If 11 and 19 both apply, 19 comes first" (02, e).
+fn fault_of(block: &BlockPlan, earlier: &[BlockPlan], begins: usize) -> Option<Refusal> {
     let value = |i: usize| block.fields[i].0;
+    // The level or the target is there already, as often as it may be.
+    let met = |number: u32, element: Element, value: u32| Refusal {
+        number,
+        offset: begins as u32,
+        element: Some(element),
+        told: Told::Other {
+            value: value as u64,
+        },
+    };
+    let level = |number: u32| Some(met(number, Element::ExtBlockLevel, block.level));
     let same_level: Vec<&BlockPlan> = earlier
         .iter()
         .filter(|one| one.level == block.level)
         .collect();
     match block.level {
         // min_PQ, max_PQ, avg_PQ
-        1 if value(0) > value(2) || value(2) > value(1) => Some(10),
-        1 if !same_level.is_empty() => Some(17),
-        5 if !same_level.is_empty() => Some(18),
-        2 if same_level.len() == LEVEL_2_BLOCKS => Some(19),
-        2 if same_level.iter().any(|one| one.fields[0].0 == value(0)) => Some(11),
+        1 if value(0) > value(2) || value(2) > value(1) => {
+            let allowed = (value(0), value(1));
+            let avg_pq = value(2) as u64;
+            Some(Refusal::outside(
+                10,
+                Element::AvgPq,
+                begins,
+                avg_pq,
+                allowed,
+            ))
+        }
+        1 if !same_level.is_empty() => level(17),
+        5 if !same_level.is_empty() => level(18),
+        2 if same_level.len() == LEVEL_2_BLOCKS => level(19),
+        2 if same_level.iter().any(|one| one.fields[0].0 == value(0)) => {
+            Some(met(11, Element::TargetMaxPq, value(0)))
+        }
         _ => None,
     }
 }
@@ -453,24 +523,33 @@ fn fault_of(block: &BlockPlan, earlier: &[BlockPlan]) -> Option<u32> {
 impl Plan {
     pub fn payload(&self) -> Payload {
         let mut made = Payload::new();
-        let begins = made.code(self.app_identifier);
-        if self.app_identifier.number() != 1 {
-            made.refuse(4, begins, made.bits);
+        let begins = made.code(self.app_identifier, Element::AppIdentifier);
+        let value = self.app_identifier.number();
+        if value != 1 {
+            made.refuse(
+                Refusal::outside(4, Element::AppIdentifier, begins, value, (1, 1)),
+                made.bits,
+            );
         }
-        let begins = made.code(self.app_version);
-        if self.app_version.number() != 0 {
-            made.refuse(5, begins, made.bits);
+        let begins = made.code(self.app_version, Element::AppVersion);
+        let value = self.app_version.number();
+        if value != 0 {
+            made.refuse(
+                Refusal::outside(5, Element::AppVersion, begins, value, (0, 0)),
+                made.bits,
+            );
         }
-        made.field(self.refresh as u32, 1, What::Element);
+        let flag = self.refresh as u32;
+        made.field(flag, 1, What::Element, Element::MetadataRefreshFlag);
         if !self.refresh {
             made.end_elements();
         }
         let mut announced = 0;
         if let Some(code) = self.num_ext_blocks {
-            let begins = made.code(code);
+            made.code(code, Element::NumExtBlocks);
             announced = code.number();
             if announced > MOST_ANNOUNCED as u64 {
-                made.refuse(6, begins, made.bits);
+                made.refuse(too_many(announced as u32), made.bits);
             }
         }
         if announced == 0 {
@@ -499,7 +578,7 @@ impl Plan {
             } else {
                 behind_blocks
             };
-            made.refuse(1, begins, made.bits);
+            made.refuse(Refusal::cut(Element::ExtBlockLength, begins), made.bits);
         }
         made.bytes.extend_from_slice(&self.rest);
         made.judge_end();

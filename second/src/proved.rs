@@ -26,6 +26,13 @@ extern "C" {
         reading: *mut u32,
         reading_len: usize,
     ) -> u32;
+    fn pim_why_wrapped(
+        input: *const u8,
+        n: usize,
+        out: *mut u8,
+        out_len: usize,
+        written: *mut u32,
+    ) -> u32;
     fn pim_write_bare(
         record: *const i32,
         record_len: usize,
@@ -117,6 +124,18 @@ pub fn read_unit(input: &[u8], record: &mut [i32], facts: &mut [u32]) -> u32 {
             record.len(),
             facts.as_mut_ptr(),
             facts.len(),
+        )
+    }
+}
+
+pub fn why_wrapped(input: &[u8], out: &mut [u8], written: &mut u32) -> u32 {
+    unsafe {
+        pim_why_wrapped(
+            input.as_ptr(),
+            input.len(),
+            out.as_mut_ptr(),
+            out.len(),
+            written,
         )
     }
 }

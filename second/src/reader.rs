@@ -1,9 +1,10 @@
 //! 01, "The data, bit by bit" and "The wrapper", with 02's requests b, blocks of
 //! reserved levels are passed over, d, big numbers are read and judged where they
-//! stand, and e, a refusal says where. Every step that can fail answers with the
-//! refusal, and the first failure decides.
+//! stand, e, a refusal says where, and f, it says why. Every step that can fail answers
+//! with the refusal, and the first failure decides.
 
 use crate::record::{repeat, Block, Record, EMPTY};
+use crate::why::{Element, Told};
 
 /// B5; 00 31; 47 41 39 34; 09: country, provider, user identifier and the type
 /// code of ST2094-10_data (002, table 6.3).
@@ -23,39 +24,140 @@ pub struct Reading {
     pub skipped: u32,
 }
 
-/// What a refused input gives: the refusal number, and where. "The desk wants the bit
-/// offset in the data at which the failing element begins, the left-over bytes' offset
-/// for 12, and for a wrapper fault the byte's offset counted from the wrapper with a
-/// mark that says so; else 0" (02, e).
+/// What a refused input gives: the refusal number, where, and why. "The desk wants the
+/// bit offset in the data at which the failing element begins, the left-over bytes'
+/// offset for 12, and for a wrapper fault the byte's offset counted from the wrapper with
+/// a mark that says so; else 0" (02, e). The mark is the element's name, `wrapper`.
 #[derive(Clone, Copy, PartialEq, Eq, Debug)]
 pub struct Refusal {
     pub number: u32,
     pub offset: u32,
-    pub in_wrapper: bool,
+    /// None where the refusal is about none of them (30 to 33).
+    pub element: Option<Element>,
+    pub told: Told,
 }
 
 impl Refusal {
-    /// In the data, at this bit.
-    pub const fn at(number: u32, bit: usize) -> Refusal {
+    /// 1: the element that begins at this bit is not whole.
+    pub const fn cut(element: Element, bit: usize) -> Refusal {
         Refusal {
-            number,
+            number: 1,
             offset: bit as u32,
-            in_wrapper: false,
+            element: Some(element),
+            told: Told::Nothing,
         }
     }
 
-    /// In the wrapper, at this byte.
-    pub const fn in_wrapper(number: u32, byte: usize) -> Refusal {
+    /// 2: the code that begins at this bit has a 32nd zero, and no number.
+    pub const fn no_code(element: Element, bit: usize) -> Refusal {
+        Refusal {
+            number: 2,
+            ..Refusal::cut(element, bit)
+        }
+    }
+
+    /// The element has this value, and allowed are those from the lowest to the highest.
+    pub const fn outside(
+        number: u32,
+        element: Element,
+        bit: usize,
+        value: u64,
+        (lowest, highest): (u32, u32),
+    ) -> Refusal {
         Refusal {
             number,
-            offset: byte as u32,
-            in_wrapper: true,
+            offset: bit as u32,
+            element: Some(element),
+            told: Told::Range {
+                value,
+                lowest,
+                highest,
+            },
         }
+    }
+
+    /// 7: a zero bit is a one.
+    pub const fn one(element: Element, bit: usize) -> Refusal {
+        Refusal::outside(7, element, bit, 1, (0, 0))
+    }
+
+    /// 9: the length of the block that begins at this bit. Of a known level one is
+    /// allowed, of a reserved one 0 to 1,023.
+    pub const fn length(bit: usize, length: u32, level: u32) -> Refusal {
+        let allowed = match level {
+            1 => (5, 5),
+            2 => (11, 11),
+            5 => (7, 7),
+            _ => (0, MOST_SKIPPED_BYTES),
+        };
+        Refusal::outside(9, Element::ExtBlockLength, bit, length as u64, allowed)
+    }
+
+    /// 10, of the block that begins at this bit: "the element is avg_PQ and allowed runs
+    /// from min_PQ to max_PQ".
+    pub const fn order(bit: usize, min: u16, max: u16, avg: u16) -> Refusal {
+        let allowed = (min as u32, max as u32);
+        Refusal::outside(10, Element::AvgPq, bit, avg as u64, allowed)
+    }
+
+    /// 11, of the block that begins at this bit: "it is target_max_PQ with allowed=other".
+    pub const fn target(bit: usize, target: u16) -> Refusal {
+        Refusal {
+            number: 11,
+            offset: bit as u32,
+            element: Some(Element::TargetMaxPq),
+            told: Told::Other {
+                value: target as u64,
+            },
+        }
+    }
+
+    /// 17, 18 or 19, of the block that begins at this bit: "it is ext_block_level with
+    /// allowed=other".
+    pub const fn level(number: u32, bit: usize) -> Refusal {
+        let value = match number {
+            17 => 1,
+            18 => 5,
+            _ => 2,
+        };
+        Refusal {
+            number,
+            offset: bit as u32,
+            element: Some(Element::ExtBlockLevel),
+            told: Told::Other { value },
+        }
+    }
+
+    /// 12: "the element is the word end, the value is the number of bytes left over, and
+    /// allowed is 0-0".
+    pub const fn left_over(bit: usize, bytes: usize) -> Refusal {
+        Refusal::outside(12, Element::End, bit, bytes as u64, (0, 0))
+    }
+
+    /// 1 in the wrapper: it has no byte of this place.
+    pub const fn wrapper_cut(place: usize) -> Refusal {
+        Refusal::cut(Element::Wrapper, place)
+    }
+
+    /// 3: "with that byte's value and allowed such as 181-181".
+    pub const fn wrapper_byte(place: usize, byte: u8) -> Refusal {
+        let own = WRAPPER[place] as u32;
+        Refusal::outside(3, Element::Wrapper, place, byte as u64, (own, own))
     }
 
     /// Neither in the data nor in the wrapper.
     pub const fn nowhere(number: u32) -> Refusal {
-        Refusal::at(number, 0)
+        Refusal {
+            number,
+            offset: 0,
+            element: None,
+            told: Told::Nothing,
+        }
+    }
+
+    /// The mark of 02, e.
+    pub fn is_in_wrapper(&self) -> bool {
+        self.element == Some(Element::Wrapper)
     }
 }
 
@@ -68,10 +170,10 @@ struct Bits<'a> {
 impl Bits<'_> {
     /// "Bits run from the most significant bit of each byte." This one belongs to the
     /// element that begins at the bit `begins`.
-    fn bit(&mut self, begins: usize) -> Result<u32, Refusal> {
+    fn bit(&mut self, element: Element, begins: usize) -> Result<u32, Refusal> {
         let byte = self.read / 8;
         if byte >= self.input.len() {
-            return Err(Refusal::at(1, begins));
+            return Err(Refusal::cut(element, begins));
         }
         let bit = (self.input[byte] >> (7 - self.read % 8)) & 1;
         self.read += 1;
@@ -79,27 +181,27 @@ impl Bits<'_> {
     }
 
     /// n bits of the element that begins there, as a number.
-    fn number(&mut self, begins: usize, n: u32) -> Result<u32, Refusal> {
+    fn number(&mut self, element: Element, begins: usize, n: u32) -> Result<u32, Refusal> {
         let mut number = 0;
         for _ in 0..n {
-            number = 2 * number + self.bit(begins)?;
+            number = 2 * number + self.bit(element, begins)?;
         }
         Ok(number)
     }
 
     /// u(n)
-    fn u(&mut self, n: u32) -> Result<u32, Refusal> {
-        self.number(self.read, n)
+    fn u(&mut self, element: Element, n: u32) -> Result<u32, Refusal> {
+        self.number(element, self.read, n)
     }
 
     /// u(n) for n up to 16, as the type of a field
-    fn field(&mut self, n: u32) -> Result<u16, Refusal> {
-        Ok(self.u(n)? as u16)
+    fn field(&mut self, element: Element, n: u32) -> Result<u16, Refusal> {
+        Ok(self.u(element, n)? as u16)
     }
 
     /// i(n): two's complement
-    fn i(&mut self, n: u32) -> Result<i16, Refusal> {
-        let number = self.u(n)? as i32;
+    fn i(&mut self, element: Element, n: u32) -> Result<i16, Refusal> {
+        let number = self.u(element, n)? as i32;
         if number >= 1 << (n - 1) {
             Ok((number - (1 << n)) as i16)
         } else {
@@ -109,34 +211,35 @@ impl Bits<'_> {
 
     /// ue(v): k zeros, a one, then k bits; the number is 2^k - 1 plus those bits.
     /// "2 means a 32nd zero" (02, d).
-    fn ue(&mut self) -> Result<u32, Refusal> {
+    fn ue(&mut self, element: Element) -> Result<u32, Refusal> {
         let begins = self.read;
         let mut k = 0;
-        while self.bit(begins)? == 0 {
+        while self.bit(element, begins)? == 0 {
             k += 1;
             if k == 32 {
-                return Err(Refusal::at(2, begins));
+                return Err(Refusal::no_code(element, begins));
             }
         }
-        Ok((1 << k) - 1 + self.number(begins, k)?)
+        Ok((1 << k) - 1 + self.number(element, begins, k)?)
     }
 
     /// Bits that are not looked at. They have to be there, and "each skipped bit" is an
-    /// element (02, e): the first that is missing stands right behind the input.
+    /// element "named ext_dm_alignment_zero_bit" (02, e): the first that is missing stands
+    /// right behind the input.
     fn pass_over(&mut self, n: usize) -> Result<(), Refusal> {
         let end = 8 * self.input.len();
         if n > end - self.read {
-            return Err(Refusal::at(1, end));
+            return Err(Refusal::cut(Element::ExtDmAlignmentZeroBit, end));
         }
         self.read += n;
         Ok(())
     }
 
     /// "Each padding bit is its own element" (02, e).
-    fn zero_bit(&mut self) -> Result<(), Refusal> {
+    fn zero_bit(&mut self, element: Element) -> Result<(), Refusal> {
         let begins = self.read;
-        if self.bit(begins)? == 1 {
-            return Err(Refusal::at(7, begins));
+        if self.bit(element, begins)? == 1 {
+            return Err(Refusal::one(element, begins));
         }
         Ok(())
     }
@@ -144,7 +247,7 @@ impl Bits<'_> {
     /// "Zero bits to the next byte boundary."
     fn zeros_to_byte(&mut self) -> Result<(), Refusal> {
         while self.read % 8 != 0 {
-            self.zero_bit()?;
+            self.zero_bit(Element::DmAlignmentZeroBit)?;
         }
         Ok(())
     }
@@ -159,48 +262,48 @@ impl Bits<'_> {
 /// that block's length" (02, e).
 fn read_block(bits: &mut Bits, earlier: &[Block]) -> Result<Option<Block>, Refusal> {
     let begins = bits.read;
-    let length = bits.ue()?;
-    let level = bits.u(8)?;
+    let length = bits.ue(Element::ExtBlockLength)?;
+    let level = bits.u(Element::ExtBlockLevel, 8)?;
     let its_length = match level {
         1 => 5,
         2 => 11,
         5 => 7,
         _ => {
             if length > MOST_SKIPPED_BYTES {
-                return Err(Refusal::at(9, begins));
+                return Err(Refusal::length(begins, length, level));
             }
             bits.pass_over(8 * length as usize)?;
             return Ok(None);
         }
     };
     if length != its_length {
-        return Err(Refusal::at(9, begins));
+        return Err(Refusal::length(begins, length, level));
     }
     let after_level = bits.read;
     let block = match level {
         1 => Block::Level1 {
-            min_pq: bits.field(12)?,
-            max_pq: bits.field(12)?,
-            avg_pq: bits.field(12)?,
+            min_pq: bits.field(Element::MinPq, 12)?,
+            max_pq: bits.field(Element::MaxPq, 12)?,
+            avg_pq: bits.field(Element::AvgPq, 12)?,
         },
         2 => Block::Level2 {
-            target_max_pq: bits.field(12)?,
-            trim_slope: bits.field(12)?,
-            trim_offset: bits.field(12)?,
-            trim_power: bits.field(12)?,
-            trim_chroma_weight: bits.field(12)?,
-            trim_saturation_gain: bits.field(12)?,
-            ms_weight: bits.i(13)?,
+            target_max_pq: bits.field(Element::TargetMaxPq, 12)?,
+            trim_slope: bits.field(Element::TrimSlope, 12)?,
+            trim_offset: bits.field(Element::TrimOffset, 12)?,
+            trim_power: bits.field(Element::TrimPower, 12)?,
+            trim_chroma_weight: bits.field(Element::TrimChromaWeight, 12)?,
+            trim_saturation_gain: bits.field(Element::TrimSaturationGain, 12)?,
+            ms_weight: bits.i(Element::MsWeight, 13)?,
         },
         _ => Block::Level5 {
-            left: bits.field(13)?,
-            right: bits.field(13)?,
-            top: bits.field(13)?,
-            bottom: bits.field(13)?,
+            left: bits.field(Element::ActiveAreaLeftOffset, 13)?,
+            right: bits.field(Element::ActiveAreaRightOffset, 13)?,
+            top: bits.field(Element::ActiveAreaTopOffset, 13)?,
+            bottom: bits.field(Element::ActiveAreaBottomOffset, 13)?,
         },
     };
     while bits.read < after_level + 8 * length as usize {
-        bits.zero_bit()?;
+        bits.zero_bit(Element::ExtDmAlignmentZeroBit)?;
     }
     if let Block::Level1 {
         min_pq,
@@ -209,12 +312,15 @@ fn read_block(bits: &mut Bits, earlier: &[Block]) -> Result<Option<Block>, Refus
     } = block
     {
         if !(min_pq <= avg_pq && avg_pq <= max_pq) {
-            return Err(Refusal::at(10, begins));
+            return Err(Refusal::order(begins, min_pq, max_pq, avg_pq));
         }
     }
-    match repeat(earlier, &block) {
-        Some(number) => Err(Refusal::at(number, begins)),
-        None => Ok(Some(block)),
+    match (repeat(earlier, &block), block) {
+        (None, _) => Ok(Some(block)),
+        (Some(11), Block::Level2 { target_max_pq, .. }) => {
+            Err(Refusal::target(begins, target_max_pq))
+        }
+        (Some(number), _) => Err(Refusal::level(number, begins)),
     }
 }
 
@@ -224,22 +330,40 @@ pub fn read_bare(input: &[u8]) -> Result<Reading, Refusal> {
     let mut record = EMPTY;
     let mut skipped = 0;
     let begins = bits.read;
-    let app_identifier = bits.ue()?;
+    let app_identifier = bits.ue(Element::AppIdentifier)?;
     if app_identifier != 1 {
-        return Err(Refusal::at(4, begins));
+        return Err(Refusal::outside(
+            4,
+            Element::AppIdentifier,
+            begins,
+            app_identifier as u64,
+            (1, 1),
+        ));
     }
     let begins = bits.read;
-    let app_version = bits.ue()?;
+    let app_version = bits.ue(Element::AppVersion)?;
     if app_version != 0 {
-        return Err(Refusal::at(5, begins));
+        return Err(Refusal::outside(
+            5,
+            Element::AppVersion,
+            begins,
+            app_version as u64,
+            (0, 0),
+        ));
     }
-    let metadata_refresh_flag = bits.u(1)?;
+    let metadata_refresh_flag = bits.u(Element::MetadataRefreshFlag, 1)?;
     record.refresh = metadata_refresh_flag == 1;
     if record.refresh {
         let begins = bits.read;
-        let num_ext_blocks = bits.ue()?;
+        let num_ext_blocks = bits.ue(Element::NumExtBlocks)?;
         if num_ext_blocks > MOST_ANNOUNCED {
-            return Err(Refusal::at(6, begins));
+            return Err(Refusal::outside(
+                6,
+                Element::NumExtBlocks,
+                begins,
+                num_ext_blocks as u64,
+                (0, MOST_ANNOUNCED),
+            ));
         }
         if num_ext_blocks > 0 {
             bits.zeros_to_byte()?;
@@ -260,7 +384,8 @@ pub fn read_bare(input: &[u8]) -> Result<Reading, Refusal> {
     }
     bits.zeros_to_byte()?;
     if bits.read < 8 * input.len() {
-        return Err(Refusal::at(12, bits.read));
+        let left_over = input.len() - bits.read / 8;
+        return Err(Refusal::left_over(bits.read, left_over));
     }
     Ok(Reading {
         record,
@@ -275,10 +400,10 @@ pub fn read_bare(input: &[u8]) -> Result<Reading, Refusal> {
 pub fn read_wrapped(input: &[u8]) -> Result<Reading, Refusal> {
     for i in 0..WRAPPER.len() {
         if i >= input.len() {
-            return Err(Refusal::in_wrapper(1, i));
+            return Err(Refusal::wrapper_cut(i));
         }
         if input[i] != WRAPPER[i] {
-            return Err(Refusal::in_wrapper(3, i));
+            return Err(Refusal::wrapper_byte(i, input[i]));
         }
     }
     read_bare(&input[WRAPPER.len()..])

@@ -4,11 +4,12 @@
 use crate::compare::Compare;
 use crate::made::{blocks, holding, plan_of, put_reserved, random_bytes, reserved_level};
 use crate::made::{Kind, Rng};
-use crate::plan::{block_plan, is_reserved, own_length, plan, plan_with, reserved, ue};
-use crate::plan::{Answer, BlockPlan, Plan, MOST_ANNOUNCED, MOST_SKIPPED_BYTES};
-use crate::reader::{Refusal, WRAPPER};
+use crate::plan::{block_plan, is_reserved, own_length, plan, plan_with, reserved, too_many, ue};
+use crate::plan::{wrong_length, Answer, BlockPlan, Plan, MOST_ANNOUNCED, MOST_SKIPPED_BYTES};
+use crate::reader::Refusal;
 use crate::record::{flat, from_flat, Block, Record, LEVEL_2_BLOCKS};
-use crate::runs::{expect, rng};
+use crate::runs::{expect, of_flip, rng};
+use crate::why::Element;
 
 /// The longest bare payload that is accepted: 24 bits up to the first block, then
 /// 254 blocks of 1,023 bytes, each with 21 bits of its length and 8 of its level.
@@ -36,31 +37,33 @@ impl Content {
 
 /// Reads bare and behind the wrapper: this answer.
 fn both(compare: &mut Compare, data: &[u8], answer: Answer) -> u64 {
-    let wrapped = [&WRAPPER[..], data].concat();
-    for (is_wrapped, input) in [(false, data), (true, &wrapped[..])] {
-        let number = compare.read(is_wrapped, input);
-        expect(compare, input, answer, number);
-    }
+    let number = compare.read(false, data);
+    expect(compare, data, answer, number);
+    let number = compare.read_behind_wrapper(data);
+    expect(compare, data, answer, number);
     2
 }
 
-/// The same: a refusal with this number at this bit of the data.
-pub fn refused(compare: &mut Compare, data: &[u8], number: u32, bit: usize) -> u64 {
-    both(compare, data, Answer::Refused(Refusal::at(number, bit)))
+/// The same: this refusal.
+pub fn refused(compare: &mut Compare, data: &[u8], refusal: Refusal) -> u64 {
+    both(compare, data, Answer::Refused(refusal))
 }
 
 /// Reads bare and behind the wrapper: this record, so many blocks passed over, and
 /// every bit of the data read.
 pub fn accepted(compare: &mut Compare, data: &[u8], record: &Record, skipped: usize) -> u64 {
-    let wrapped = [&WRAPPER[..], data].concat();
-    for (is_wrapped, input) in [(false, data), (true, &wrapped[..])] {
-        let number = compare.read(is_wrapped, input);
+    for is_wrapped in [false, true] {
+        let number = if is_wrapped {
+            compare.read_behind_wrapper(data)
+        } else {
+            compare.read(false, data)
+        };
         let facts = (compare.bits() as usize, compare.skipped() as usize);
-        expect(compare, input, Answer::Accepted, number);
+        expect(compare, data, Answer::Accepted, number);
         if facts != (8 * data.len(), skipped) || compare.record() != flat(record) {
             compare.fail(
                 "both implementations read otherwise than the made payload was meant",
-                &format!("input of {} bytes", input.len()),
+                &format!("data of {} bytes, wrapped {}", data.len(), is_wrapped),
                 &format!(
                     "meant: {} bits, {} skipped; both: {} bits, {} skipped",
                     8 * data.len(),
@@ -124,7 +127,8 @@ fn levels_and_lengths(compare: &mut Compare, round: u64) -> u64 {
             cases += match own_length(level) {
                 None => accepted(compare, &data, &record, 1),
                 Some(own) if own as usize != length => {
-                    refused(compare, &data, 9, bits_before(&made, at))
+                    let refusal = wrong_length(bits_before(&made, at), length as u32, level);
+                    refused(compare, &data, refusal)
                 }
                 Some(_) => 0,
             };
@@ -150,17 +154,18 @@ fn positions(compare: &mut Compare, round: u64) -> u64 {
                 let payload = made.payload();
                 let data = &payload.bytes;
                 if length as u32 > MOST_SKIPPED_BYTES {
-                    cases += refused(compare, data, 9, begins);
+                    let refusal = wrong_length(begins, length as u32, level);
+                    cases += refused(compare, data, refusal);
                     // 9 before the content, which is not there.
                     let mut made = made.clone();
                     made.blocks.truncate(at + 1);
                     made.blocks[at].fields.clear();
-                    cases += refused(compare, &made.payload().bytes, 9, begins);
+                    cases += refused(compare, &made.payload().bytes, refusal);
                     continue;
                 }
                 cases += accepted(compare, data, &record, 1);
                 let more = [&data[..], &[rng.pick(&[0, 0x80, 0xFF])]].concat();
-                cases += refused(compare, &more, 12, 8 * data.len());
+                cases += refused(compare, &more, Refusal::left_over(8 * data.len(), 1));
                 let cuts = if length > 20 {
                     vec![data.len() - 1, data.len() / 2, data.len() - 100]
                 } else if content == CONTENTS[(length + position) % 3] {
@@ -202,10 +207,8 @@ fn flips(compare: &mut Compare, round: u64) -> u64 {
             let number = compare.read(false, &data);
             let answer = if bit + 8 * n >= end && bit < end {
                 Answer::Accepted
-            } else if payload.is_zero_bit(bit) {
-                Answer::Refused(Refusal::at(7, bit))
             } else {
-                Answer::Unknown
+                of_flip(&payload, bit)
             };
             expect(compare, &data, answer, number);
             if answer == Answer::Accepted && (compare.record() != record || compare.skipped() != 1)
@@ -297,7 +300,7 @@ fn counts(compare: &mut Compare, round: u64) -> u64 {
             .collect();
         let data = plan_with(list).payload().bytes;
         cases += if n > most {
-            refused(compare, &data, 6, 5)
+            refused(compare, &data, too_many(n as u32))
         } else {
             accepted(compare, &data, &holding(&[]), n)
         };
@@ -307,8 +310,11 @@ fn counts(compare: &mut Compare, round: u64) -> u64 {
         let data = made.payload().bytes;
         cases += match n {
             0 => 0,
-            _ if n > most => refused(compare, &data, 6, 5),
-            _ => refused(compare, &data, 1, 8 * data.len()),
+            _ if n > most => refused(compare, &data, too_many(n as u32)),
+            _ => {
+                let refusal = Refusal::cut(Element::ExtBlockLength, 8 * data.len());
+                refused(compare, &data, refusal)
+            }
         };
     }
     for known in [0, 1, 2, 17, 18, 18, 18, 18] {
@@ -326,7 +332,9 @@ fn counts(compare: &mut Compare, round: u64) -> u64 {
         let n = data.len();
         cases += accepted(compare, data, &holding(&list), most - known);
         cases += both(compare, &data[..n - 1], payload.answer_of_cut(n - 1));
-        cases += refused(compare, &[&data[..], &[0]].concat(), 12, 8 * n);
+        let more = rng.pick(&[1, 2, 300]);
+        let longer = [&data[..], &vec![0; more]].concat();
+        cases += refused(compare, &longer, Refusal::left_over(8 * n, more));
         // One announced less: what is left of it is no zero bits or more bytes.
         let mut fewer = made.clone();
         fewer.num_ext_blocks = Some(ue(most as u32 - 1));
@@ -334,7 +342,8 @@ fn counts(compare: &mut Compare, round: u64) -> u64 {
         cases += both(compare, &payload.bytes, payload.answer);
         // One more is too many, whatever is there.
         fewer.num_ext_blocks = Some(ue(most as u32 + 1));
-        cases += refused(compare, &fewer.payload().bytes, 6, 5);
+        let refusal = too_many(most as u32 + 1);
+        cases += refused(compare, &fewer.payload().bytes, refusal);
         if known == 18 {
             // With all the places full, the last of the 254 is one block more.
             let again = rng.pick(&list);
@@ -353,7 +362,8 @@ fn counts(compare: &mut Compare, round: u64) -> u64 {
                 // Its target_max_PQ was met too, and 19 comes first.
                 _ => 19,
             };
-            cases += refused(compare, &repeated.payload().bytes, number, begins);
+            let refusal = Refusal::level(number, begins);
+            cases += refused(compare, &repeated.payload().bytes, refusal);
             let other = Block::Level2 {
                 target_max_pq: 4095 - (list.len() as u16),
                 trim_slope: 0,
@@ -365,7 +375,8 @@ fn counts(compare: &mut Compare, round: u64) -> u64 {
             };
             repeated.blocks.pop();
             repeated.blocks.push(block_plan(&other));
-            cases += refused(compare, &repeated.payload().bytes, 19, begins);
+            let refusal = Refusal::level(19, begins);
+            cases += refused(compare, &repeated.payload().bytes, refusal);
         }
     }
     cases
@@ -386,16 +397,23 @@ fn longest(compare: &mut Compare, round: u64) -> u64 {
     let mut cases = accepted(compare, &data, &none, MOST_ANNOUNCED as usize);
     for n in [LONGEST - 1, LONGEST - 2, 65_536, 32_768, 8_192] {
         // All of them end inside a content.
-        cases += refused(compare, &data[..n], 1, 8 * n);
+        let refusal = Refusal::cut(Element::ExtDmAlignmentZeroBit, 8 * n);
+        cases += refused(compare, &data[..n], refusal);
     }
     // This one two bits into the last level, which 253 blocks and a length precede.
     let level_begins = 24 + 253 * (21 + 8 + 8 * 1023) + 21;
-    cases += refused(compare, &data[..LONGEST - 1024], 1, level_begins);
-    cases += refused(compare, &[&data[..], &[0]].concat(), 12, 8 * LONGEST);
+    let refusal = Refusal::cut(Element::ExtBlockLevel, level_begins);
+    cases += refused(compare, &data[..LONGEST - 1024], refusal);
+    for more in [1, 100_000] {
+        let longer = [&data[..], &vec![0; more]].concat();
+        let refusal = Refusal::left_over(8 * LONGEST, more);
+        cases += refused(compare, &longer, refusal);
+    }
     // The last two bits are zero bits behind the blocks.
     let mut other = data.clone();
     other[LONGEST - 1] |= 1;
-    cases += refused(compare, &other, 7, 8 * LONGEST - 1);
+    let refusal = Refusal::one(Element::DmAlignmentZeroBit, 8 * LONGEST - 1);
+    cases += refused(compare, &other, refusal);
     // Known blocks in place of the last ones.
     let known = blocks(&mut rng, true, LEVEL_2_BLOCKS, true);
     made.blocks.truncate(MOST_ANNOUNCED as usize - known.len());
@@ -410,7 +428,8 @@ fn longest(compare: &mut Compare, round: u64) -> u64 {
     made.blocks[skipped - 1].length = ue(MOST_SKIPPED_BYTES + 1);
     made.blocks[skipped - 1].fields.push((0, 8));
     let begins = bits_before(&made, skipped - 1);
-    cases += refused(compare, &made.payload().bytes, 9, begins);
+    let refusal = wrong_length(begins, MOST_SKIPPED_BYTES + 1, level);
+    cases += refused(compare, &made.payload().bytes, refusal);
     cases
 }
 

@@ -4,10 +4,11 @@
 //!
 //! It is safe Rust and gives the same record, so that both are asked the same. Where
 //! an element begins it does not keep: a refusal works that out from how far the
-//! reading came.
+//! reading came, and with it what it tells of the element.
 
 use crate::reader::{Reading, Refusal, WRAPPER};
 use crate::record::{Block, EMPTY, LEVEL_2_BLOCKS};
+use crate::why::{Element, LEVEL_1, LEVEL_2, LEVEL_5};
 
 /// The input, and how many of its bits were read.
 struct Window<'a> {
@@ -52,31 +53,25 @@ impl Window<'_> {
         self.end() - self.read
     }
 
-    /// The refusal of what begins at the next bit.
+    /// 1, of the element that begins at the next bit.
     #[inline(always)]
-    fn refused(&self, number: u32) -> Refusal {
-        Refusal::at(number, self.read)
-    }
-
-    /// The same of a known block that was just read, which has so many bits.
-    #[inline(always)]
-    fn refused_block(&self, number: u32, bits: usize) -> Refusal {
-        Refusal::at(number, self.read - bits)
+    fn cut(&self, element: Element) -> Refusal {
+        cut(element, self.read)
     }
 
     /// ue(v). A code of up to 28 zeros has 57 bits at most and lies in the window.
     #[inline(always)]
-    fn ue(&mut self) -> Result<u32, Refusal> {
+    fn ue(&mut self, element: Element) -> Result<u32, Refusal> {
         let bits = self.next();
         let zeros = bits.leading_zeros() as usize;
         let width = 2 * zeros + 1;
         if zeros > 28 {
-            let number = long_ue(self.input, self.read, zeros)?;
+            let number = long_ue(self.input, self.read, zeros, element)?;
             self.read += width;
             return Ok(number);
         }
         if self.left() < width {
-            return Err(self.refused(1));
+            return Err(self.cut(element));
         }
         self.read += width;
         Ok((bits >> (64 - width)) as u32 - 1)
@@ -85,13 +80,13 @@ impl Window<'_> {
     /// n zero bits, at most 7: the first that is a one or that is missing decides. A
     /// missing one stands behind all that are there.
     #[inline(always)]
-    fn zeros(&mut self, n: usize) -> Result<(), Refusal> {
+    fn zeros(&mut self, n: usize, element: Element) -> Result<(), Refusal> {
         let zeros = self.next().leading_zeros() as usize;
         if zeros < n {
-            return Err(Refusal::at(7, self.read + zeros));
+            return Err(one(element, self.read + zeros));
         }
         if self.left() < n {
-            return Err(Refusal::at(1, self.end()));
+            return Err(cut(element, self.end()));
         }
         self.read += n;
         Ok(())
@@ -99,8 +94,34 @@ impl Window<'_> {
 
     #[inline(always)]
     fn zeros_to_byte(&mut self) -> Result<(), Refusal> {
-        self.zeros(self.read.wrapping_neg() % 8)
+        self.zeros(self.read.wrapping_neg() % 8, Element::DmAlignmentZeroBit)
     }
+}
+
+/// 1 and 7, made where they do not stand in the way of a reading.
+#[cold]
+#[inline(never)]
+fn cut(element: Element, bit: usize) -> Refusal {
+    Refusal::cut(element, bit)
+}
+
+#[cold]
+#[inline(never)]
+fn one(element: Element, bit: usize) -> Refusal {
+    Refusal::one(element, bit)
+}
+
+/// 4, 5 and 6, of the header: a number that its code gave, and the highest allowed one,
+/// which but for num_ext_blocks is the lowest too.
+#[cold]
+#[inline(never)]
+fn refused_header(number: u32, value: u32) -> Refusal {
+    let (element, bit, allowed) = match number {
+        4 => (Element::AppIdentifier, 0, (1, 1)),
+        5 => (Element::AppVersion, 3, (0, 0)),
+        _ => (Element::NumExtBlocks, 5, (0, 254)),
+    };
+    Refusal::outside(number, element, bit, value as u64, allowed)
 }
 
 /// The same of a code that begins with more than 28 zeros, of which 31 at most may be
@@ -109,14 +130,13 @@ impl Window<'_> {
 /// It gets the window's parts, so that the window itself stays in registers.
 #[cold]
 #[inline(never)]
-fn long_ue(input: &[u8], read: usize, zeros: usize) -> Result<u32, Refusal> {
+fn long_ue(input: &[u8], read: usize, zeros: usize, element: Element) -> Result<u32, Refusal> {
     let mut window = Window { input, read };
-    if zeros > 31 {
-        let whole = window.left() >= 32;
-        return Err(window.refused(if whole { 2 } else { 1 }));
+    if zeros > 31 && window.left() >= 32 {
+        return Err(Refusal::no_code(element, read));
     }
-    if window.left() < 2 * zeros + 1 {
-        return Err(window.refused(1));
+    if zeros > 31 || window.left() < 2 * zeros + 1 {
+        return Err(Refusal::cut(element, read));
     }
     window.read += zeros;
     Ok((window.next() >> (63 - zeros)) as u32 - 1)
@@ -126,9 +146,10 @@ fn long_ue(input: &[u8], read: usize, zeros: usize) -> Result<u32, Refusal> {
 /// wide as its number has it.
 #[cold]
 #[inline(never)]
-fn refused_length(length: u32, after_level: usize) -> Refusal {
+fn refused_length(length: u32, level: u64, after_level: usize) -> Refusal {
     let zeros = 31 - (length + 1).leading_zeros() as usize;
-    Refusal::at(9, after_level - 8 - (2 * zeros + 1))
+    let begins = after_level - 8 - (2 * zeros + 1);
+    Refusal::length(begins, length, level as u32)
 }
 
 /// 1, at the first field that is not whole. All have 12 bits but for those of level 5
@@ -136,8 +157,34 @@ fn refused_length(length: u32, after_level: usize) -> Refusal {
 #[cold]
 #[inline(never)]
 fn cut_field(level: u64, first_field: usize, left: usize) -> Refusal {
-    let width = if level == 5 { 13 } else { 12 };
-    Refusal::at(1, first_field + width * (left / width).min(6))
+    let (width, fields): (usize, &[Element]) = match level {
+        1 => (12, &LEVEL_1),
+        2 => (12, &LEVEL_2),
+        _ => (13, &LEVEL_5),
+    };
+    let before = (left / width).min(6);
+    Refusal::cut(fields[before], first_field + width * before)
+}
+
+/// 10, of a block that was just read.
+#[cold]
+#[inline(never)]
+fn refused_order(behind: usize, min_pq: u16, max_pq: u16, avg_pq: u16) -> Refusal {
+    Refusal::order(behind - LEVEL_1_BITS, min_pq, max_pq, avg_pq)
+}
+
+/// 11, 17, 18 or 19, of a block that was just read.
+#[cold]
+#[inline(never)]
+fn refused_repeat(number: u32, behind: usize, block: &Block) -> Refusal {
+    match *block {
+        Block::Level1 { .. } => Refusal::level(number, behind - LEVEL_1_BITS),
+        Block::Level2 { target_max_pq, .. } if number == 11 => {
+            Refusal::target(behind - LEVEL_2_BITS, target_max_pq)
+        }
+        Block::Level2 { .. } => Refusal::level(number, behind - LEVEL_2_BITS),
+        _ => Refusal::level(number, behind - LEVEL_5_BITS),
+    }
 }
 
 /// The n bits of a window that stand behind its first `skip`.
@@ -154,9 +201,9 @@ const LEVEL_5_BITS: usize = 71;
 /// One block, up to refusal 10, or none where it was passed over.
 #[inline(always)]
 fn read_block(window: &mut Window) -> Result<Option<Block>, Refusal> {
-    let length = window.ue()?;
+    let length = window.ue(Element::ExtBlockLength)?;
     if window.left() < 8 {
-        return Err(window.refused(1));
+        return Err(window.cut(Element::ExtBlockLevel));
     }
     let level = window.next() >> 56;
     window.read += 8;
@@ -166,17 +213,17 @@ fn read_block(window: &mut Window) -> Result<Option<Block>, Refusal> {
         5 => (7, 52),
         _ => {
             if length > 1023 {
-                return Err(refused_length(length, window.read));
+                return Err(refused_length(length, level, window.read));
             }
             if window.left() < 8 * length as usize {
-                return Err(Refusal::at(1, window.end()));
+                return Err(cut(Element::ExtDmAlignmentZeroBit, window.end()));
             }
             window.read += 8 * length as usize;
             return Ok(None);
         }
     };
     if length != its_length {
-        return Err(refused_length(length, window.read));
+        return Err(refused_length(length, level, window.read));
     }
     if window.left() < fields {
         return Err(cut_field(level, window.read, window.left()));
@@ -188,9 +235,9 @@ fn read_block(window: &mut Window) -> Result<Option<Block>, Refusal> {
             let max_pq = field(bits, 12, 12);
             let avg_pq = field(bits, 24, 12);
             window.read += 36;
-            window.zeros(4)?;
+            window.zeros(4, Element::ExtDmAlignmentZeroBit)?;
             if !(min_pq <= avg_pq && avg_pq <= max_pq) {
-                return Err(window.refused_block(10, LEVEL_1_BITS));
+                return Err(refused_order(window.read, min_pq, max_pq, avg_pq));
             }
             Ok(Some(Block::Level1 {
                 min_pq,
@@ -202,7 +249,7 @@ fn read_block(window: &mut Window) -> Result<Option<Block>, Refusal> {
             window.read += 48;
             let more = window.next();
             window.read += 37;
-            window.zeros(3)?;
+            window.zeros(3, Element::ExtDmAlignmentZeroBit)?;
             Ok(Some(Block::Level2 {
                 target_max_pq: field(bits, 0, 12),
                 trim_slope: field(bits, 12, 12),
@@ -216,7 +263,7 @@ fn read_block(window: &mut Window) -> Result<Option<Block>, Refusal> {
         }
         _ => {
             window.read += 52;
-            window.zeros(4)?;
+            window.zeros(4, Element::ExtDmAlignmentZeroBit)?;
             Ok(Some(Block::Level5 {
                 left: field(bits, 0, 13),
                 right: field(bits, 13, 13),
@@ -238,23 +285,22 @@ struct Met {
 }
 
 impl Met {
-    /// The refusal number of a repeat and the bits of such a block, or none; then the
-    /// block is met from now on.
+    /// The refusal number of a repeat, or none; then the block is met from now on.
     #[inline(always)]
-    fn repeat(&mut self, block: &Block) -> Option<(u32, usize)> {
+    fn repeat(&mut self, block: &Block) -> Option<u32> {
         match *block {
             Block::Nothing => None,
             Block::Level1 { .. } => {
                 let met = std::mem::replace(&mut self.level_1, true);
-                met.then_some((17, LEVEL_1_BITS))
+                met.then_some(17)
             }
             Block::Level5 { .. } => {
                 let met = std::mem::replace(&mut self.level_5, true);
-                met.then_some((18, LEVEL_5_BITS))
+                met.then_some(18)
             }
             Block::Level2 { target_max_pq, .. } => {
                 if self.level_2 == LEVEL_2_BLOCKS {
-                    return Some((19, LEVEL_2_BITS));
+                    return Some(19);
                 }
                 // All of them, so that the compiler compares several at once.
                 let mut met = false;
@@ -263,7 +309,7 @@ impl Met {
                 }
                 self.targets[self.level_2] = target_max_pq;
                 self.level_2 += 1;
-                met.then_some((11, LEVEL_2_BITS))
+                met.then_some(11)
             }
         }
     }
@@ -275,21 +321,23 @@ pub fn read_bare(input: &[u8]) -> Result<Reading, Refusal> {
     let mut window = Window { input, read: 0 };
     let mut record = EMPTY;
     let mut skipped = 0;
-    if window.ue()? != 1 {
-        return Err(Refusal::at(4, 0));
+    let app_identifier = window.ue(Element::AppIdentifier)?;
+    if app_identifier != 1 {
+        return Err(refused_header(4, app_identifier));
     }
-    if window.ue()? != 0 {
-        return Err(Refusal::at(5, 3));
+    let app_version = window.ue(Element::AppVersion)?;
+    if app_version != 0 {
+        return Err(refused_header(5, app_version));
     }
     if window.left() < 1 {
-        return Err(window.refused(1));
+        return Err(window.cut(Element::MetadataRefreshFlag));
     }
     record.refresh = window.next() >> 63 == 1;
     window.read += 1;
     if record.refresh {
-        let announced = window.ue()?;
+        let announced = window.ue(Element::NumExtBlocks)?;
         if announced > 254 {
-            return Err(Refusal::at(6, 5));
+            return Err(refused_header(6, announced));
         }
         if announced > 0 {
             window.zeros_to_byte()?;
@@ -304,8 +352,8 @@ pub fn read_bare(input: &[u8]) -> Result<Reading, Refusal> {
             match read_block(&mut window)? {
                 None => skipped += 1,
                 Some(block) => {
-                    if let Some((number, bits)) = met.repeat(&block) {
-                        return Err(window.refused_block(number, bits));
+                    if let Some(number) = met.repeat(&block) {
+                        return Err(refused_repeat(number, window.read, &block));
                     }
                     record.places[record.count as usize] = block;
                     record.count += 1;
@@ -315,7 +363,7 @@ pub fn read_bare(input: &[u8]) -> Result<Reading, Refusal> {
     }
     window.zeros_to_byte()?;
     if window.left() > 0 {
-        return Err(window.refused(12));
+        return Err(Refusal::left_over(window.read, window.left() / 8));
     }
     Ok(Reading {
         record,
@@ -328,8 +376,8 @@ pub fn read_bare(input: &[u8]) -> Result<Reading, Refusal> {
 pub fn read_wrapped(input: &[u8]) -> Result<Reading, Refusal> {
     for (i, &byte) in WRAPPER.iter().enumerate() {
         match input.get(i) {
-            None => return Err(Refusal::in_wrapper(1, i)),
-            Some(&there) if there != byte => return Err(Refusal::in_wrapper(3, i)),
+            None => return Err(Refusal::wrapper_cut(i)),
+            Some(&there) if there != byte => return Err(Refusal::wrapper_byte(i, there)),
             Some(_) => {}
         }
     }

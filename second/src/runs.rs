@@ -5,18 +5,19 @@ use crate::made::{
     flat_record, payload, pictures, point_record, wrapped, FlatKind, Kind, Rng, WrapperKind,
     FLAT_KINDS, KINDS, WRAPPER_KINDS,
 };
-use crate::own::READING;
-use crate::plan::Answer;
+use crate::own::{facts_of, READING};
+use crate::plan::{Answer, Payload};
 use crate::reader::{Refusal, WRAPPER};
 use crate::record::{flat, EMPTY, FLAT, FLAT_BLOCK};
 use crate::track::{FLAT_POINT, FLAT_TABLE, POINTS};
+use crate::why::Element;
 
 /// The lengths that are wrong for a flat record.
 pub const WRONG_RECORD_LENGTHS: [usize; 5] = [0, 1, 145, 147, 292];
 
 /// Lengths of a flat record and of the facts of a reading of which one, or both,
 /// is wrong.
-pub const WRONG_READ_LENGTHS: [(usize, usize); 15] = [
+pub const WRONG_READ_LENGTHS: [(usize, usize); 16] = [
     (0, READING),
     (1, READING),
     (FLAT - 1, READING),
@@ -26,8 +27,9 @@ pub const WRONG_READ_LENGTHS: [(usize, usize); 15] = [
     (FLAT, READING - 1),
     (FLAT, READING + 1),
     (FLAT, 2 * READING),
-    // As many facts as before 02's request e.
+    // As many facts as before 02's requests e and f.
     (FLAT, 2),
+    (FLAT, 4),
     (FLAT - 1, READING - 1),
     (FLAT + 1, READING + 1),
     (0, 0),
@@ -80,7 +82,7 @@ pub fn small_inputs(compare: &mut Compare) -> u64 {
 /// the same, for no offset in the data counts the wrapper.
 fn same_behind_wrapper(compare: &mut Compare, data: &[u8], bare: u32) {
     let facts = compare.all_facts();
-    let number = compare.read(true, &[&WRAPPER[..], data].concat());
+    let number = compare.read_behind_wrapper(data);
     if number != bare || compare.all_facts() != facts {
         compare.fail(
             "both implementations answer otherwise behind the wrapper",
@@ -109,9 +111,9 @@ pub fn wrappers(compare: &mut Compare) -> u64 {
         cases += 1;
     };
     for at in 0..WRAPPER.len() {
-        hold(&whole[..at], Answer::Refused(Refusal::in_wrapper(1, at)));
-        let answer = Answer::Refused(Refusal::in_wrapper(3, at));
+        hold(&whole[..at], Answer::Refused(Refusal::wrapper_cut(at)));
         for byte in (0..=255).filter(|&byte| byte != WRAPPER[at]) {
+            let answer = Answer::Refused(Refusal::wrapper_byte(at, byte));
             let mut input = whole.clone();
             input[at] = byte;
             hold(&input, answer);
@@ -123,7 +125,8 @@ pub fn wrappers(compare: &mut Compare) -> u64 {
         }
     }
     // The wrapper is whole, and a bit of the data is missing.
-    hold(&WRAPPER, Answer::Refused(Refusal::at(1, 0)));
+    let missing = Refusal::cut(Element::AppIdentifier, 0);
+    hold(&WRAPPER, Answer::Refused(missing));
     hold(&whole, Answer::Accepted);
     cases
 }
@@ -189,13 +192,14 @@ pub fn made_payloads(compare: &mut Compare, round: u64) -> u64 {
 }
 
 /// Where the way in which an input was made leaves only one answer, both
-/// implementations must have given it: the number, and of a refusal where.
+/// implementations must have given it: the number, and of a refusal all that its facts
+/// say, where and why.
 pub fn expect(compare: &mut Compare, input: &[u8], answer: Answer, number: u32) {
     let as_meant = match answer {
         Answer::Accepted => number == 0,
         Answer::Refused(refusal) => {
-            compare.count_known(Known::marked(refusal.in_wrapper));
-            compare.refusal(number) == refusal
+            compare.count_known(Known::marked(refusal.is_in_wrapper()));
+            number == refusal.number && compare.all_facts() == facts_of(&refusal)
         }
         Answer::Unknown => true,
     };
@@ -203,7 +207,12 @@ pub fn expect(compare: &mut Compare, input: &[u8], answer: Answer, number: u32) 
         compare.fail(
             "both implementations answer otherwise than the made input was meant",
             &format!("input: {}", hex(input)),
-            &format!("meant: {:?}, both: {:?}", answer, compare.refusal(number)),
+            &format!(
+                "meant: {:?}, both: {}, {}",
+                answer,
+                number,
+                compare.facts_text()
+            ),
         );
     }
 }
@@ -239,6 +248,14 @@ pub fn cuts(compare: &mut Compare, round: u64) -> u64 {
     cases
 }
 
+/// What an accepted payload gets when this bit of it is flipped, if it is a zero bit.
+pub fn of_flip(payload: &Payload, bit: usize) -> Answer {
+    match payload.zero_bit(bit) {
+        Some(element) => Answer::Refused(Refusal::one(element, bit)),
+        None => Answer::Unknown,
+    }
+}
+
 /// Every single-bit flip of some valid payloads, bare and wrapped. One in the wrapper
 /// makes its byte differ, and one of a zero bit makes that a one. Gives the number of
 /// inputs.
@@ -260,11 +277,9 @@ pub fn bit_flips(compare: &mut Compare, round: u64) -> u64 {
             input[bit / 8] ^= 0x80 >> (bit % 8);
             let number = compare.read(is_wrapped, &input);
             let answer = if bit < data_begins {
-                Answer::Refused(Refusal::in_wrapper(3, bit / 8))
-            } else if made.is_zero_bit(bit - data_begins) {
-                Answer::Refused(Refusal::at(7, bit - data_begins))
+                Answer::Refused(Refusal::wrapper_byte(bit / 8, input[bit / 8]))
             } else {
-                Answer::Unknown
+                of_flip(&made, bit - data_begins)
             };
             expect(compare, &input, answer, number);
             cases += 1;

@@ -5,7 +5,7 @@
 //! to make what `unit.rs` must never write. What a unit must get follows from
 //! its plan and from the faults that were put into it, not from reading it.
 
-use crate::compare::{Compare, Known};
+use crate::compare::{in_words, Compare, Known};
 use crate::made::{blocks, flat_record, holding, payload, random_bytes, FlatKind, Kind, Rng};
 use crate::made::{FLAT_KINDS, KINDS};
 use crate::own::READING;
@@ -154,12 +154,11 @@ fn read(compare: &mut Compare, unit: &[u8], expected: &Meant) {
             &format!("unit of {} bytes: {:02X?}", unit.len(), unit),
             &match expected {
                 Meant::AsWrapped(content) => format!(
-                    "meant: as wrapped {:02X?}, both: {} {:?}, wrapped {:?} (bits, skipped, \
-                     offset, in the wrapper)",
+                    "meant: as wrapped {:02X?}\nboth: {}, {}\nwrapped: {}",
                     content,
                     number,
-                    facts,
-                    compare.all_facts()
+                    in_words(&facts),
+                    compare.facts_text()
                 ),
                 Meant::Number(refusal) => format!("meant: {}, both: {}", refusal, number),
                 Meant::Unknown => String::new(),

@@ -13,12 +13,14 @@ use lib.Seq.{drop-drop}
 use borrow.Author.Tests.{le-ltb}
 use Rattle.refusals.specs.Refusals.{notZero}
 use Rattle.tree.specs.Bits.{code, bitsOf, value}
-use Rattle.tree.specs.Reading.{Fault, numberIn, offsetIn, Out, ok, no, widened, cutOff, overlong, breaks, u, zerosThenOne, ue}
+use Rattle.tree.specs.Reading.{Fault, numberIn, offsetIn, elementIn, Out, ok, no, widened, mapped, cutOff, overlong, breaks, u, zerosThenOne, ue}
+use Rattle.tree.specs.Coding.{unsigned, variable, fixed, mostZeros}
 use Rattle.tree.specs.Syntax.{rangeRule, read, zeroBits}
 use Rattle.tree.specs.Renamed.{renamed}
 use Rattle.tree.proofs.Bits.{length-bits, code-value, code-zero}
 use Rattle.tree.proofs.Elements.{u-ok, u-short, zerosOne, length-zeros-one, codes-zeros-one, zero-more}
 use Rattle.tree.proofs.Renamed.{renamed-u, renamed-ue}
+use Rattle.tree.proofs.Names.{coded-named, fault-is-named, names-zeros}
 use Rattle.tree.proofs.Steps as steps
 use Rattle.window.specs.Bytes.{bytesNumber}
 use Rattle.window.proofs.Laws.{joined, front, number-one, byte-is-bits, bits-in-bytes}
@@ -83,6 +85,34 @@ named-zeros name (suc n) at (true ∷ s) = ap spanOf (steps.zeros-one nameless n
 named-zeros name (suc n) at (false ∷ s) =
     ap spanOf (steps.zeros-zero nameless n at s) ∙ span-widened 1 (read (zeroBits nameless n) (at + 1) s) ∙ ap (further 1) (named-zeros name n (at + 1) s)
     ∙ sym (ap spanOf (steps.zeros-zero name n at s) ∙ span-widened 1 (read (zeroBits name n) (at + 1) s))
+
+-- ---- a refusal, to who knows the name
+
+-- a fault with that number, of that element, at that offset
+abbrev pub ToldOf : {N A : Type 0} → Out N A → ℕ → N → ℕ → Type 0
+ToldOf {N} o k name at = (f : Fault N) × (o ≡ no f) × (k ≡ numberIn f) × (name ≡ elementIn f) × (at ≡ offsetIn f)
+
+module _ {N : Type 0} (name : N) (at : ℕ) (s : List Bool) (k w : ℕ) where
+  abbrev Own : N → Type 0
+  Own n = name ≡ n
+
+  pub refused-u : (n : ℕ) → Refused k w ≡ numberOf (u nameless n at s) → ToldOf (u name n at s) k name w
+  refused-u n e = go (is-no (u name n at s) k w (e ∙ named-u name at s n))
+    where
+      go : Told (u name n at s) k w → ToldOf (u name n at s) k name w
+      go (f, q, x, y) = (f, q, x, coded-named Own (fixed (unsigned n)) name at s f refl (ap (mapped pos) q), y)
+
+  pub refused-ue : Refused k w ≡ numberOf (ue nameless mostZeros at s) → ToldOf (ue name mostZeros at s) k name w
+  refused-ue e = go (is-no (ue name mostZeros at s) k w (e ∙ named-ue name at s mostZeros))
+    where
+      go : Told (ue name mostZeros at s) k w → ToldOf (ue name mostZeros at s) k name w
+      go (f, q, x, y) = (f, q, x, coded-named Own variable name at s f refl (ap (mapped pos) q), y)
+
+  pub refused-zeros : (n : ℕ) → Refused k w ≡ spanOf (read (zeroBits nameless n) at s) → ToldOf (read (zeroBits name n) at s) k name w
+  refused-zeros n e = go (spans-no (read (zeroBits name n) at s) k w (e ∙ named-zeros name n at s))
+    where
+      go : Told (read (zeroBits name n) at s) k w → ToldOf (read (zeroBits name n) at s) k name w
+      go (f, q, x, y) = (f, q, x, fault-is-named Own (zeroBits name n) at s f (names-zeros Own name n refl) q, y)
 
 -- ---- bits by the bytes that they lie in
 

@@ -26,14 +26,17 @@ use Rattle.tree.proofs.Spells.{apart-complete, any-only, must-only, done-only, 
 use Rattle.tree.proofs.Steps.{read-any, bits-there, bits-short}
 use Rattle.tree.proofs.Widths.{widths-fields, variable-width}
 use Rattle.tree.proofs.Accepted.{widths-zeros}
-use Rattle.bits.proofs.Reading.{Told}
+use Rattle.bits.proofs.Reading.{ToldOf}
+use Rattle.element.specs.declared.Element.{Element as Title}
+use Rattle.element.specs.declared.Element.the-variants.{AvgPq, ExtBlockLength, ExtDmAlignmentZeroBit}
 use Rattle.record.specs.declared.Block.{Block}
 use Rattle.record.specs.declared.Block.the-variants.{Nothing, Level1, Level2, Level5}
-use Rattle.record.specs.Name.{Name, «ext_block_length», «ext_block_level», «ext_dm_alignment_zero_bit»}
+use Rattle.record.specs.Name.{Name, elementOf, «ext_block_length», «ext_block_level», «ext_dm_alignment_zero_bit»}
 use Rattle.record.specs.Level.{Level, level, level1, level2, level5, reserved, known, fieldsOf, codings, padding}
 use Rattle.record.specs.Blocks.{inOrder}
 use Rattle.syntax.specs.Data.{mostReserved, Item, kept, passed, blockOf, lengthRule, averageRule, orderRules, content, reservedBits, reservedContent, wholeBlock, block}
 use Rattle.syntax.specs.Element.{itemFits}
+use Rattle.syntax.specs.Told.{ToldAs}
 use Rattle.syntax.proofs.Blocks.{contentOf, block-only}
 use Rattle.syntax.proofs.Largest.{blockMost, reserved-width, widths-item}
 use Rattle.syntax.proofs.Steps.{read-own-length, read-reserved-length, read-in-order, read-not-in-order}
@@ -285,17 +288,21 @@ part-passed (ok (kept a) m) n e = let z : _≡_ {A = ℕ} 0 1 = cc in clash z
 part-passed (ok (passed l k zs) m) n e = (l, k, zs, cc)
 part-passed (no f) n e = let z : _≡_ {A = ℕ} 0 1 = cc in clash z
 
-pub part-no : (o : Out Name Item) (j w : ℕ) → Refused j w ≡ partOf o → Told o j w
-part-no (ok (kept a) m) j w e = let z : _≡_ {A = ℕ} 0 1 = cc in clash z
-part-no (ok (passed l k zs) m) j w e = let z : _≡_ {A = ℕ} 0 1 = cc in clash z
-part-no (no f) j w e = (f, refl, cc, cc)
+pub part-no : (o : Out Name Item) (j : ℕ) (x : Title) (w : ℕ) → Refused j x w ≡ partOf o → ToldAs o j x w
+part-no (ok (kept a) m) j x w e = let z : _≡_ {A = ℕ} 0 1 = cc in clash z
+part-no (ok (passed l k zs) m) j x w e = let z : _≡_ {A = ℕ} 0 1 = cc in clash z
+part-no (no f) j x w e = (f, refl, cc, cc, cc)
 
 -- the answer of a table whose first part gave o, and whose second goes on from the position where that ended: a refusal of the first;
 -- else a refusal or an answer of the second
 module _ {A : Type 0} (t : Syntax Name Item) (o : Out Name A) (g : A → Syntax Name Item) (at : ℕ) (bits : List Bool)
     (q : read t at (drop at bits) ≡ andThen o (λ a. read (g a)) at (drop at bits)) where
-  pub first-no : (j w : ℕ) → Told o j w → Refused j w ≡ partOf (read t at (drop at bits))
-  first-no j w (f, e, x, y) = sym (ap partOf q ∙ rw (e, x, y) refl)
+  pub first-no : (j : ℕ) (x : Title) (w : ℕ) → ToldAs o j x w → Refused j x w ≡ partOf (read t at (drop at bits))
+  first-no j x w (f, e, k, n, y) = sym (ap partOf q ∙ rw (e, k, n, y) refl)
+
+  -- of one element, which has a name
+  pub first-told : (j : ℕ) (name : Name) (w : ℕ) → ToldOf o j name w → Refused j (elementOf name) w ≡ partOf (read t at (drop at bits))
+  first-told j name w (f, e, k, n, y) = first-no j (elementOf name) w (f, e, k, ap elementOf n, y)
 
   pub second-on : (a : A) (n : ℕ) → o ≡ ok a n → partBehind n (partOf (read (g a) (at + n) (drop (at + n) bits))) ≡ partOf (read t at (drop at bits))
   second-on a n e = shifted n (read (g a) (at + n) (drop (at + n) bits)) ∙ sym (ap partOf q ∙ rw (e, drop-drop n at bits) refl)
@@ -311,10 +318,10 @@ module _ (start l : ℕ) (b : Block) (at : ℕ) (bits : List Bool) (n : ℕ) (e 
       let o : read (ordered start (kept b)) (at + n) (drop (at + n) bits) ≡ ok (kept b) 0 = read-in-order (λ o. done (kept b)) (at + n) (drop (at + n) bits) start b h in
       ap (λ (w : ℕ). Kept w b) (sym (add-zero n)) ∙ ap (λ (x : Out Name Item). partBehind n (partOf x)) (sym o) ∙ closing
 
-  pub out-of-order : inOrder b ≡ false → refusedPart notInOrder start ≡ partOf (read (afterFields start l b) at (drop at bits))
+  pub out-of-order : inOrder b ≡ false → refusedPart notInOrder AvgPq start ≡ partOf (read (afterFields start l b) at (drop at bits))
   out-of-order h =
       let o = read-not-in-order (λ o. done (kept b)) (at + n) (drop (at + n) bits) start b h in
-      rw (← o .1) (ap (refusedPart (o .0 .number)) (sym (o .2))) ∙ ap (λ (x : Out Name Item). partBehind n (partOf x)) (sym (o .3)) ∙ closing
+      sym (rw (o .1, o .2, o .3) refl) ∙ ap (λ (x : Out Name Item). partBehind n (partOf x)) (sym (o .4)) ∙ closing
 
 -- the body: 9 before the content
 module _ (start n l at : ℕ) (s : List Bool) where
@@ -324,7 +331,7 @@ module _ (start n l at : ℕ) (s : List Bool) where
   known-body : known l ≡ true → read (body start (pos n) (pos l)) at s ≡ cond (eqb n (level l .bytes)) (read (contentFrom start l) at s) (no (breaks (lengthRule start (pos n) l)))
   known-body h = read-own-length rest at s start n l h ∙ ap (λ (t : Bool). cond (eqb n (level l .bytes)) (read (cond t (contentFrom start l) (reservedContent l n)) at s) (no (breaks (lengthRule start (pos n) l)))) h
 
-  pub body-length : known l ≡ true → (n ≡ level l .bytes → ⊥) → refusedPart wrongLength start ≡ partOf (read (body start (pos n) (pos l)) at s)
+  pub body-length : known l ≡ true → (n ≡ level l .bytes → ⊥) → refusedPart wrongLength ExtBlockLength start ≡ partOf (read (body start (pos n) (pos l)) at s)
   body-length h k = sym (ap partOf (known-body h) ∙ rw (ne-eqb n (level l .bytes) k) refl)
 
   pub body-is : known l ≡ true → n ≡ level l .bytes → partOf (read (contentFrom start l) at s) ≡ partOf (read (body start (pos n) (pos l)) at s)
@@ -333,7 +340,7 @@ module _ (start n l at : ℕ) (s : List Bool) where
   reserved-body : known l ≡ false → read (body start (pos n) (pos l)) at s ≡ cond (leb n mostReserved) (read (reservedContent l n) at s) (no (breaks (lengthRule start (pos n) l)))
   reserved-body h = read-reserved-length rest at s start n l h ∙ ap (λ (t : Bool). cond (leb n mostReserved) (read (cond t (contentFrom start l) (reservedContent l n)) at s) (no (breaks (lengthRule start (pos n) l)))) h
 
-  pub body-too-long : known l ≡ false → mostReserved < n → refusedPart wrongLength start ≡ partOf (read (body start (pos n) (pos l)) at s)
+  pub body-too-long : known l ≡ false → mostReserved < n → refusedPart wrongLength ExtBlockLength start ≡ partOf (read (body start (pos n) (pos l)) at s)
   body-too-long h k = sym (ap partOf (reserved-body h) ∙ rw (lt-leb n mostReserved k) refl)
 
   pub body-reserved : known l ≡ false → n ≤ mostReserved → partOf (read (reservedContent l n) at s) ≡ partOf (read (body start (pos n) (pos l)) at s)
@@ -353,5 +360,5 @@ module _ (l n at : ℕ) (s : List ℕ) where
       go : (zs : List ℤ) × (read (row (reservedBits n)) at (drop at (bitsOf s)) ≡ ok zs (8 * n)) → Passed (8 * n) ≡ partOf (read (reservedContent l n) at (drop at (bitsOf s)))
       go (zs, e) = sym (ap partOf (reserved-read ∙ ap (mapped (passed l n)) e))
 
-  pub cut-short : at ≤ 8 * length s → 8 * length s < at + 8 * n → refusedPart pastEnd (8 * length s) ≡ partOf (read (reservedContent l n) at (drop at (bitsOf s)))
-  cut-short b h = ap (refusedPart pastEnd) (omega (arith, length-rest s at)) ∙ sym (ap partOf (reserved-read ∙ ap (mapped (passed l n)) (bits-short «ext_dm_alignment_zero_bit» (8 * n) at (drop at (bitsOf s)) (omega (arith, length-rest s at)))))
+  pub cut-short : at ≤ 8 * length s → 8 * length s < at + 8 * n → refusedPart pastEnd ExtDmAlignmentZeroBit (8 * length s) ≡ partOf (read (reservedContent l n) at (drop at (bitsOf s)))
+  cut-short b h = ap (refusedPart pastEnd ExtDmAlignmentZeroBit) (omega (arith, length-rest s at)) ∙ sym (ap partOf (reserved-read ∙ ap (mapped (passed l n)) (bits-short «ext_dm_alignment_zero_bit» (8 * n) at (drop at (bitsOf s)) (omega (arith, length-rest s at)))))

@@ -1,5 +1,6 @@
 // Reads one ext_dm_data_block at a bit position.
 use bits::Number;
+use element::Element;
 use fields::Step;
 use record::Block;
 ghost use mathlib.Core.Path.{_≡_};
@@ -12,22 +13,32 @@ ghost use Rattle.syntax.specs.Data.{mostReserved, reservedContent, block};
 ghost use Rattle.block.specs.Parts.{partOf, refusedPart, partBehind, partTook, afterFields, contentFrom, body, afterLength};
 
 // 02, b: a block of a reserved level has at most so many bytes.
-const MOST_RESERVED: u32 = 1023;
+pub const MOST_RESERVED: u32 = 1023;
 
 // A block of a known level, which is kept, or one of a reserved level, which is passed over, and how many bits it took; or why there is
 // none.
 pub enum Part {
-    Kept { width: usize, block: Block },
-    Passed { width: usize },
-    Refused { number: u8, offset: u32 },
+    Kept {
+        width: usize,
+        block: Block,
+    },
+    Passed {
+        width: usize,
+    },
+    Refused {
+        number: u8,
+        element: Element,
+        offset: u32,
+    },
 }
 
-fn refuse(number: u8, at: usize) -> Part
+fn refuse(number: u8, element: Element, at: usize) -> Part
     requires { ⌜ at < 2 ^ 32 ⌝ }
-    ensures { λ r. ⌜ r ≡ refusedPart number at ⌝ }
+    ensures { λ r. ⌜ r ≡ refusedPart number element at ⌝ }
 {
     Part::Refused {
         number,
+        element,
         offset: at as u32,
     }
 }
@@ -38,7 +49,15 @@ fn behind(n: usize, rest: Part) -> Part
     ensures { λ r. ⌜ r ≡ partBehind n rest ⌝ }
 {
     match rest {
-        Part::Refused { number, offset } => Part::Refused { number, offset },
+        Part::Refused {
+            number,
+            element,
+            offset,
+        } => Part::Refused {
+            number,
+            element,
+            offset,
+        },
         Part::Passed { width } => Part::Passed { width: n + width },
         Part::Kept { block, width } => Part::Kept {
             block,
@@ -54,12 +73,16 @@ fn after_fields(s: &[u8], start: usize, at: usize, level: u8, block: Block) -> P
     ensures { λ r. ⌜ r ≡ partOf (read (afterFields start level block) at (drop at (bitsOf (now (s .entry))))) ⌝ }
 {
     match bits::read_zeros(s, at, record::padding_of(level) as usize) {
-        Number::Refused { number, offset } => Part::Refused { number, offset },
+        Number::Refused { number, offset } => Part::Refused {
+            number,
+            element: Element::ExtDmAlignmentZeroBit,
+            offset,
+        },
         Number::Is { width, .. } => {
             if record::in_order(block) {
                 Part::Kept { block, width }
             } else {
-                refuse(refusals::NOT_IN_ORDER, start)
+                refuse(refusals::NOT_IN_ORDER, Element::AvgPq, start)
             }
         }
     }
@@ -71,7 +94,15 @@ fn read_content(s: &[u8], start: usize, at: usize, level: u8) -> Part
     ensures { λ r. ⌜ r ≡ partOf (read (contentFrom start level) at (drop at (bitsOf (now (s .entry))))) ⌝ }
 {
     match fields::fields_of(s, at, level) {
-        Step::Refused { number, offset } => Part::Refused { number, offset },
+        Step::Refused {
+            number,
+            element,
+            offset,
+        } => Part::Refused {
+            number,
+            element,
+            offset,
+        },
         Step::Is { block: b, width: n } => behind(n, after_fields(s, start, at + n, level, b)),
     }
 }
@@ -84,7 +115,11 @@ fn skip(s: &[u8], at: usize, size: u32) -> Part
 {
     let bits = 8 * size as usize;
     if s.len() < (at + bits + 7) / 8 {
-        return refuse(refusals::PAST_END, 8 * s.len());
+        return refuse(
+            refusals::PAST_END,
+            Element::ExtDmAlignmentZeroBit,
+            8 * s.len(),
+        );
     }
     Part::Passed { width: bits }
 }
@@ -100,13 +135,13 @@ fn read_body(s: &[u8], start: usize, at: usize, size: u32, level: u8) -> Part
         if size == bytes {
             read_content(s, start, at, level)
         } else {
-            refuse(refusals::WRONG_LENGTH, start)
+            refuse(refusals::WRONG_LENGTH, Element::ExtBlockLength, start)
         }
     } else {
         if size <= MOST_RESERVED {
             skip(s, at, size)
         } else {
-            refuse(refusals::WRONG_LENGTH, start)
+            refuse(refusals::WRONG_LENGTH, Element::ExtBlockLength, start)
         }
     }
 }
@@ -117,7 +152,11 @@ fn after_length(s: &[u8], start: usize, at: usize, size: u32) -> Part
     ensures { λ r. ⌜ r ≡ partOf (read (afterLength start (pos size)) at (drop at (bitsOf (now (s .entry))))) ⌝ }
 {
     match bits::read_u(s, at, 8) {
-        Number::Refused { number, offset } => Part::Refused { number, offset },
+        Number::Refused { number, offset } => Part::Refused {
+            number,
+            element: Element::ExtBlockLevel,
+            offset,
+        },
         Number::Is {
             value: level,
             width: n,
@@ -131,7 +170,11 @@ pub fn read_block(s: &[u8], at: usize) -> Part
     ensures { λ r. ⌜ r ≡ partOf (read block at (drop at (bitsOf (now (s .entry))))) ⌝ }
 {
     match bits::read_ue(s, at, bits::MOST_ZEROS) {
-        Number::Refused { number, offset } => Part::Refused { number, offset },
+        Number::Refused { number, offset } => Part::Refused {
+            number,
+            element: Element::ExtBlockLength,
+            offset,
+        },
         Number::Is {
             value: size,
             width: n,

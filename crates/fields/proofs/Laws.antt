@@ -1,5 +1,5 @@
 -- Laws by which the functions that read the fields of a level meet their definitions.
-use Prim.Native.Nat.{ℕ, suc, _+_, _-_, _*_, _/_, _%_, _^_, _<_, _≤_}
+use Prim.Native.Nat.{ℕ, zero, suc, _+_, _-_, _*_, _/_, _%_, _^_, _<_, _≤_}
 use mathlib.Core.Path.{_≡_, refl, ap, sym, _∙_}
 use mathlib.Core.List.{List, [], _∷_, _++_, map}
 use mathlib.Core.Bool.{Bool, true, false, cond}
@@ -15,23 +15,25 @@ use mir.Syntax.{w16}
 use mir.Val.{SFits}
 use Rattle.refusals.specs.Refusals.{pastEnd}
 use Rattle.tree.specs.Bits.{bitsOf, value}
-use Rattle.tree.specs.Reading.{Fault, cutOff, numberIn, offsetIn, Out, ok, no, mapped, signedOf}
+use Rattle.tree.specs.Reading.{Fault, cutOff, numberIn, offsetIn, elementIn, Out, ok, no, mapped, signedOf}
 use Rattle.tree.specs.Coding.{Coding, widthOf, totalWidth}
 use Rattle.tree.specs.Syntax.{Field, codingOf, row, read}
 use Rattle.tree.proofs.Elements.{twice-half, signed-low, signed-high}
 use Rattle.tree.proofs.Bits.{length-rest}
 use Rattle.tree.proofs.Steps.{fieldValue, valuesIn, cutIn, row-there, row-cut}
 use Rattle.window.proofs.Laws.{within}
-use Rattle.bits.proofs.Reading.{Told}
+use Rattle.element.specs.declared.Element.{Element}
+use Rattle.element.specs.declared.Element.the-variants.{AvgPq, MsWeight, ActiveAreaBottomOffset}
 use Rattle.record.specs.declared.Block.{Block}
 use Rattle.record.specs.declared.Block.the-variants.{Nothing}
-use Rattle.record.specs.Name.{Name}
+use Rattle.record.specs.Name.{Name, elementOf}
 use Rattle.record.specs.Level.{Level, fieldsOf, codings}
 use Rattle.record.proofs.Laws.{no-level}
 use Rattle.syntax.specs.Data.{blockOf}
+use Rattle.syntax.specs.Told.{ToldAs}
 use Rattle.fields.specs.declared.Step.{Step}
 use Rattle.fields.specs.declared.Step.the-variants.{Is, Refused}
-use Rattle.fields.specs.Step.{stepOf, refusedStep, wholeFields}
+use Rattle.fields.specs.Step.{stepOf, refusedStep, wholeFields, nameBehind}
 
 -- ---- fields
 
@@ -82,46 +84,48 @@ OneWidth w f [] = Unit {0}
 OneWidth w f (g ∷ fs) = (widthOf (f .coding) ≡ w) × OneWidth w g fs
 
 -- with one whole field more
-one-whole-more : (n w k : ℕ) → 0 < w → w ≤ n → wholeFields n w (suc k) ≡ w + wholeFields (n - w) w k
+one-whole-more : (n w k : ℕ) → 0 < w → w ≤ n → wholeFields n w (suc k) ≡ suc (wholeFields (n - w) w k)
 one-whole-more n w k p h = go (leb ((n - w) / w) k) refl
   where
     q : n / w ≡ (n - w) / w + 1
     q = div-eq-sub-div p h
 
-    more : (j : ℕ) → (j + 1) * w ≡ w + j * w
-    more j = omega (arith, add-mul j 1 w)
-
-    go : (b : Bool) → leb ((n - w) / w) k ≡ b → wholeFields n w (suc k) ≡ w + cond b ((n - w) / w) k * w
-    go true e = rw (q, le-leb ((n - w) / w + 1) (suc k) (omega (arith, leb-true ((n - w) / w) k e))) (more ((n - w) / w))
-    go false e =
-        let s : suc k ≡ k + 1 = omega arith in
-        rw (q, lt-leb ((n - w) / w + 1) (suc k) (omega (arith, leb-false ((n - w) / w) k e)), s) (more k)
+    go : (b : Bool) → leb ((n - w) / w) k ≡ b → wholeFields n w (suc k) ≡ suc (cond b ((n - w) / w) k)
+    go true e = rw (q, le-leb ((n - w) / w + 1) (suc k) (omega (arith, leb-true ((n - w) / w) k e))) (omega arith)
+    go false e = rw (q, lt-leb ((n - w) / w + 1) (suc k) (omega (arith, leb-false ((n - w) / w) k e)))
 
 -- what is told of a fault
-abbrev told : {N : Type 0} → Fault N → Step
-told f = refusedStep (numberIn f) (offsetIn f)
+abbrev told : Fault Name → Step
+told f = refusedStep (numberIn f) (elementOf (elementIn f)) (offsetIn f)
+
+-- that k whole fields of width w stand before the one that is cut off
+abbrev cutBehind : (k w : ℕ) → List (Field Name) → ℕ → Step
+cutBehind k w fs at = refusedStep pastEnd (elementOf (nameBehind k fs)) (at + k * w)
 
 -- of the field that is cut off, where n bits are there
-cut-told : {N : Type 0} (w : ℕ) → 0 < w → (f : Field N) (fs : List (Field N)) → OneWidth w f fs → (at n : ℕ) → told (cutIn f fs at n) ≡ refusedStep pastEnd (at + wholeFields n w (length fs))
-unfolding cutIn
-cut-told w p f [] h at n = ap (refusedStep pastEnd) (sym (none (leb (n / w) 0) refl))
+cut-told : (w : ℕ) → 0 < w → (f : Field Name) (fs : List (Field Name)) → OneWidth w f fs → (at n : ℕ) → told (cutIn f fs at n) ≡ cutBehind (wholeFields n w (length fs)) w (f ∷ fs) at
+unfolding cutIn nameBehind
+cut-told w p f [] h at n = sym (none (leb (n / w) 0) refl)
   where
-    none : (b : Bool) → leb (n / w) 0 ≡ b → at + cond b (n / w) 0 * w ≡ at
+    none : (b : Bool) → leb (n / w) 0 ≡ b → cutBehind (cond b (n / w) 0) w (f ∷ []) at ≡ refusedStep pastEnd (elementOf (f .name)) at
     none true e =
         let z : n / w ≡ 0 = omega (arith, leb-true (n / w) 0 e) in
         rw (z, zero-mul w, add-zero at)
     none false e = rw (zero-mul w, add-zero at)
-cut-told {N} w p f (g ∷ fs) h at n = rw (h .0) (go (cut-told w p g fs (h .1) (at + w) (n - w)) (ltb n w) refl)
+cut-told w p f (g ∷ fs) h at n = rw (h .0) (go (cut-told w p g fs (h .1) (at + w) (n - w)) (ltb n w) refl)
   where
-    go : told (cutIn g fs (at + w) (n - w)) ≡ refusedStep pastEnd (at + w + wholeFields (n - w) w (length fs)) → (b : Bool) → ltb n w ≡ b
-        → told (cond b (cutOff at (f .name)) (cutIn g fs (at + w) (n - w))) ≡ refusedStep pastEnd (at + wholeFields n w (suc (length fs)))
+    further : (k : ℕ) → cutBehind k w (g ∷ fs) (at + w) ≡ cutBehind (suc k) w (f ∷ g ∷ fs) at
+    further k =
+        let s : suc k ≡ k + 1 = omega arith in
+        let e : at + w + k * w ≡ at + (k + 1) * w = omega (arith, add-mul k 1 w) in
+        ap (refusedStep pastEnd (elementOf (nameBehind k (g ∷ fs)))) (e ∙ ap (λ (j : ℕ). at + j * w) (sym s))
+
+    go : told (cutIn g fs (at + w) (n - w)) ≡ cutBehind (wholeFields (n - w) w (length fs)) w (g ∷ fs) (at + w) → (b : Bool) → ltb n w ≡ b
+        → told (cond b (cutOff at (f .name)) (cutIn g fs (at + w) (n - w))) ≡ cutBehind (wholeFields n w (suc (length fs))) w (f ∷ g ∷ fs) at
     go ih true e =
         let z : n / w ≡ 0 = div-eq-of-lt (ltb-true n w e) in
-        let t : at + wholeFields n w (suc (length fs)) ≡ at = rw (z, le-leb 0 (suc (length fs)) (omega arith), zero-mul w, add-zero at) in
-        ap (refusedStep pastEnd) (sym t)
-    go ih false e =
-        let m = one-whole-more n w (length fs) p (ltb-false n w e) in
-        ih ∙ ap (refusedStep pastEnd) (omega (arith, m))
+        rw (z, le-leb 0 (suc (length fs)) (omega arith), zero-mul w, add-zero at)
+    go ih false e = ih ∙ rw (one-whole-more n w (length fs) p (ltb-false n w e)) (further (wholeFields (n - w) w (length fs)))
 
 -- 16 bits hold a signed field of at most 16 bits
 pub signed-fits : (n v : ℕ) → 0 < n → n ≤ 16 → v < 2 ^ n → SFits w16 (signedOf n v)
@@ -146,11 +150,11 @@ module _ (l : ℕ) (s : List ℕ) (at : ℕ) where
 
   -- n bits are there, which are not all
   pub fields-refused : (w : ℕ) → 0 < w → (f : Field Name) (fs : List (Field Name)) → fieldsOf l ≡ f ∷ fs → OneWidth w f fs → at ≤ 8 * length s → 8 * length s < at + totalWidth (codings l)
-      → refusedStep pastEnd (at + wholeFields (8 * length s - at) w (length fs)) ≡ stepOf (mapped (blockOf l) (read (row (fieldsOf l)) at (drop at (bitsOf s))))
+      → cutBehind (wholeFields (8 * length s - at) w (length fs)) w (fieldsOf l) at ≡ stepOf (mapped (blockOf l) (read (row (fieldsOf l)) at (drop at (bitsOf s))))
   fields-refused w p f fs e o h k =
       let r = length-rest s at in
       let short : length (drop at (bitsOf s)) < totalWidth (map codingOf (f ∷ fs)) = omega (arith, r, ap (λ (gs : List (Field Name)). totalWidth (map codingOf gs)) e) in
-      (sym (cut-told w p f fs o at (8 * length s - at)) ∙ ap (λ (n : ℕ). told (cutIn f fs at n)) (sym r))
+      (ap (λ (gs : List (Field Name)). cutBehind (wholeFields (8 * length s - at) w (length fs)) w gs at) e ∙ sym (cut-told w p f fs o at (8 * length s - at)) ∙ ap (λ (n : ℕ). told (cutIn f fs at n)) (sym r))
       ∙ sym (ap (λ (gs : List (Field Name)). stepOf (mapped (blockOf l) (read (row gs) at (drop at (bitsOf s))))) e ∙ ap (λ (x : Out Name (List ℤ)). stepOf (mapped (blockOf l) x)) (row-cut f fs at (drop at (bitsOf s)) short))
 
 -- a level that is not known has no fields
@@ -161,6 +165,32 @@ fields-none l at s f g h =
     let b : blockOf l [] ≡ Nothing = rw (ne-eqb l 1 f, ne-eqb l 2 g, ne-eqb l 5 h) in
     rw (c, b)
 
+-- ---- the names of fields
+
+-- behind so many fields or more it is the last one
+pub last-of-1 : (k : ℕ) → (k ≡ 0 → ⊥) → (k ≡ 1 → ⊥) → AvgPq ≡ elementOf (nameBehind k (fieldsOf 1))
+unfolding nameBehind
+last-of-1 zero a b = absurd (a refl)
+last-of-1 (suc zero) a b = absurd (b refl)
+last-of-1 (suc (suc k)) a b = refl
+
+pub last-of-2 : (k : ℕ) → (k ≡ 0 → ⊥) → (k ≡ 1 → ⊥) → (k ≡ 2 → ⊥) → (k ≡ 3 → ⊥) → (k ≡ 4 → ⊥) → (k ≡ 5 → ⊥) → MsWeight ≡ elementOf (nameBehind k (fieldsOf 2))
+unfolding nameBehind
+last-of-2 zero a b c d e f = absurd (a refl)
+last-of-2 (suc zero) a b c d e f = absurd (b refl)
+last-of-2 (suc (suc zero)) a b c d e f = absurd (c refl)
+last-of-2 (suc (suc (suc zero))) a b c d e f = absurd (d refl)
+last-of-2 (suc (suc (suc (suc zero)))) a b c d e f = absurd (e refl)
+last-of-2 (suc (suc (suc (suc (suc zero))))) a b c d e f = absurd (f refl)
+last-of-2 (suc (suc (suc (suc (suc (suc k)))))) a b c d e f = refl
+
+pub last-of-5 : (k : ℕ) → (k ≡ 0 → ⊥) → (k ≡ 1 → ⊥) → (k ≡ 2 → ⊥) → ActiveAreaBottomOffset ≡ elementOf (nameBehind k (fieldsOf 5))
+unfolding nameBehind
+last-of-5 zero a b c = absurd (a refl)
+last-of-5 (suc zero) a b c = absurd (b refl)
+last-of-5 (suc (suc zero)) a b c = absurd (c refl)
+last-of-5 (suc (suc (suc k))) a b c = refl
+
 -- ---- answers
 
 -- what an answer says of the reading that it is of
@@ -168,6 +198,6 @@ pub step-ok : (o : Out Name Block) (b : Block) (n : ℕ) → Is b n ≡ stepOf o
 step-ok (ok a m) b n e = cc
 step-ok (no f) b n e = let z : _≡_ {A = ℕ} 0 1 = cc in absurd (omega arith)
 
-pub step-no : (o : Out Name Block) (k at : ℕ) → Refused k at ≡ stepOf o → Told o k at
-step-no (ok a m) k at e = let z : _≡_ {A = ℕ} 0 1 = cc in absurd (omega arith)
-step-no (no f) k at e = (f, refl, cc, cc)
+pub step-no : (o : Out Name Block) (k : ℕ) (x : Element) (at : ℕ) → Refused k x at ≡ stepOf o → ToldAs o k x at
+step-no (ok a m) k x at e = let z : _≡_ {A = ℕ} 0 1 = cc in absurd (omega arith)
+step-no (no f) k x at e = (f, refl, cc, cc, cc)

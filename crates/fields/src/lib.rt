@@ -1,4 +1,5 @@
 // Reads the fields of a level at a bit position.
+use element::Element;
 use record::Block;
 ghost use mathlib.Core.Path.{_≡_};
 ghost use mathlib.Core.Bool.{cond};
@@ -9,14 +10,22 @@ ghost use Rattle.refusals.specs.Refusals.{pastEnd};
 ghost use Rattle.tree.specs.Bits.{bitsOf};
 ghost use Rattle.tree.specs.Reading.{mapped};
 ghost use Rattle.tree.specs.Syntax.{row, read};
+ghost use Rattle.record.specs.Name.{elementOf};
 ghost use Rattle.record.specs.Level.{fieldsOf};
 ghost use Rattle.syntax.specs.Data.{blockOf};
-ghost use Rattle.fields.specs.Step.{stepOf, refusedStep, wholeFields};
+ghost use Rattle.fields.specs.Step.{stepOf, refusedStep, wholeFields, nameBehind};
 
 // A block that was read and how many bits it took, or why there is none.
 pub enum Step {
-    Is { block: Block, width: usize },
-    Refused { number: u8, offset: u32 },
+    Is {
+        block: Block,
+        width: usize,
+    },
+    Refused {
+        number: u8,
+        element: Element,
+        offset: u32,
+    },
 }
 
 // The smaller of two numbers.
@@ -26,16 +35,59 @@ fn smaller(a: usize, b: usize) -> usize
     if a <= b { a } else { b }
 }
 
-// The first field that is cut off, of `last` fields of one width in a row and one behind them: the slice ends within them, and where it begins
-// is told.
-fn refuse_cut(s: &[u8], at: usize, width: usize, last: usize) -> Step
-    requires { ⌜ (at < 2 ^ 31) × (at ≤ 8 * length (now s)) × (8 * length (now s) < at + 85) × (0 < width) × (width ≤ 13) × (last ≤ 6) ⌝ }
-    ensures { λ r. ⌜ r ≡ refusedStep pastEnd (at + wholeFields (8 * length (now (s .entry)) - at) width last) ⌝ }
+// Of `last` fields of one width in a row and one behind them, within which the slice ends: how many are whole before the first that is cut off.
+fn whole_fields(s: &[u8], at: usize, width: usize, last: usize) -> usize
+    requires { ⌜ (at < 2 ^ 31) × (at ≤ 8 * length (now s)) × (8 * length (now s) < at + 85) × (0 < width) ⌝ }
+    ensures { λ r. ⌜ (r ≡ wholeFields (8 * length (now (s .entry)) - at) width last) × (r ≤ last) ⌝ }
 {
-    let whole = smaller((8 * s.len() - at) / width, last);
+    smaller((8 * s.len() - at) / width, last)
+}
+
+// The field behind k others is cut off.
+fn refuse_cut(at: usize, width: usize, k: usize, element: Element) -> Step
+    requires { ⌜ (at < 2 ^ 31) × (width ≤ 13) × (k ≤ 6) ⌝ }
+    ensures { λ r. ⌜ r ≡ refusedStep pastEnd element (at + k * width) ⌝ }
+{
     Step::Refused {
         number: refusals::PAST_END,
-        offset: (at + whole * width) as u32,
+        element,
+        offset: (at + k * width) as u32,
+    }
+}
+
+// The name of the field behind k others of level 1, or of its last one; here and in the next two.
+fn name1(k: usize) -> Element
+    ensures { λ r. ⌜ r ≡ elementOf (nameBehind k (fieldsOf 1)) ⌝ }
+{
+    match k {
+        0 => Element::MinPq,
+        1 => Element::MaxPq,
+        _ => Element::AvgPq,
+    }
+}
+
+fn name2(k: usize) -> Element
+    ensures { λ r. ⌜ r ≡ elementOf (nameBehind k (fieldsOf 2)) ⌝ }
+{
+    match k {
+        0 => Element::TargetMaxPq,
+        1 => Element::TrimSlope,
+        2 => Element::TrimOffset,
+        3 => Element::TrimPower,
+        4 => Element::TrimChromaWeight,
+        5 => Element::TrimSaturationGain,
+        _ => Element::MsWeight,
+    }
+}
+
+fn name5(k: usize) -> Element
+    ensures { λ r. ⌜ r ≡ elementOf (nameBehind k (fieldsOf 5)) ⌝ }
+{
+    match k {
+        0 => Element::ActiveAreaLeftOffset,
+        1 => Element::ActiveAreaRightOffset,
+        2 => Element::ActiveAreaTopOffset,
+        _ => Element::ActiveAreaBottomOffset,
     }
 }
 
@@ -54,7 +106,8 @@ fn fields1(s: &[u8], at: usize) -> Step
     ensures { λ r. ⌜ r ≡ stepOf (mapped (blockOf 1) (read (row (fieldsOf 1)) at (drop at (bitsOf (now (s .entry)))))) ⌝ }
 {
     if s.len() < (at + 43) / 8 {
-        return refuse_cut(s, at, 12, 2);
+        let k = whole_fields(s, at, 12, 2);
+        return refuse_cut(at, 12, k, name1(k));
     }
     let word = window::word(s, at, 36);
     let min_pq = field_in(word, 24, 12);
@@ -76,7 +129,8 @@ fn fields2(s: &[u8], at: usize) -> Step
     ensures { λ r. ⌜ r ≡ stepOf (mapped (blockOf 2) (read (row (fieldsOf 2)) at (drop at (bitsOf (now (s .entry)))))) ⌝ }
 {
     if s.len() < (at + 92) / 8 {
-        return refuse_cut(s, at, 12, 6);
+        let k = whole_fields(s, at, 12, 6);
+        return refuse_cut(at, 12, k, name2(k));
     }
     let word = window::word(s, at, 48);
     let target_max_pq = field_in(word, 36, 12);
@@ -107,7 +161,8 @@ fn fields5(s: &[u8], at: usize) -> Step
     ensures { λ r. ⌜ r ≡ stepOf (mapped (blockOf 5) (read (row (fieldsOf 5)) at (drop at (bitsOf (now (s .entry)))))) ⌝ }
 {
     if s.len() < (at + 59) / 8 {
-        return refuse_cut(s, at, 13, 3);
+        let k = whole_fields(s, at, 13, 3);
+        return refuse_cut(at, 13, k, name5(k));
     }
     let word = window::word(s, at, 52);
     let left_offset = field_in(word, 39, 13);

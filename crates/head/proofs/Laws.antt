@@ -11,7 +11,7 @@ use lib.IntN.{ℤ, pos}
 use lib.ListN.{drop}
 use lib.Seq.{drop-drop}
 use Rattle.refusals.specs.Refusals.{wrongVersion, tooManyBlocks}
-use Rattle.tree.specs.Reading.{Fault, numberIn, offsetIn, Out, ok, no, widened, u, ue, toBoundary}
+use Rattle.tree.specs.Reading.{Fault, numberIn, offsetIn, elementIn, Out, ok, no, widened, u, ue, toBoundary}
 use Rattle.tree.specs.Coding.{mostZeros, unsigned, variable, fixed, widthIn, natural}
 use Rattle.tree.specs.Syntax.{Syntax, done, any, ranged, zeroBits, alignment, read, _>>=_, _>>_}
 use Rattle.tree.specs.Meaning.{Element, sumOfWidths, complete, Follow, Means}
@@ -25,10 +25,13 @@ use Rattle.tree.proofs.Accepted.{widths-zeros}
 use Rattle.tree.proofs.Widths.{variable-width}
 use Rattle.bits.specs.declared.Number.the-variants.{Is as IsNumber, Refused as RefusedNumber}
 use Rattle.bits.specs.Answer.{nameless, numberOf, spanOf}
-use Rattle.bits.proofs.Reading.{Told, is-ok, is-no, spans-ok, spans-no, named-u, named-ue, named-zeros}
-use Rattle.record.specs.Name.{Name, «app_version», «metadata_refresh_flag», «num_ext_blocks», «dm_alignment_zero_bit»}
+use Rattle.bits.proofs.Reading.{is-ok, spans-ok, named-u, named-ue, named-zeros, refused-u, refused-ue, refused-zeros}
+use Rattle.element.specs.declared.Element.{Element as Title}
+use Rattle.element.specs.declared.Element.the-variants.{MetadataRefreshFlag, NumExtBlocks, DmAlignmentZeroBit}
+use Rattle.record.specs.Name.{Name, elementOf, «app_version», «metadata_refresh_flag», «num_ext_blocks», «dm_alignment_zero_bit»}
 use Rattle.syntax.specs.Data.{mostAnnounced, Head, announced, blockCount, head, firstAlignment}
 use Rattle.syntax.specs.Element.{headElements, openElements}
+use Rattle.syntax.specs.Told.{ToldAs}
 use Rattle.syntax.proofs.Exact.{Announced, head-only, firstGap, first-only, opens-with}
 use Rattle.syntax.proofs.Largest.{widths-head, widths-open}
 use Rattle.head.specs.declared.Opening.the-variants.{Is, Refused}
@@ -45,9 +48,9 @@ opening-ok (ok h m) flag count n e =
     rw (← a, ← b, ← c)
 opening-ok (no f) flag count n e = let z : _≡_ {A = ℕ} 0 1 = cc in clash z
 
-pub opening-no : (o : Out Name Head) (k w : ℕ) → Refused k w ≡ openingOf o → Told o k w
-opening-no (ok h m) k w e = let z : _≡_ {A = ℕ} 0 1 = cc in clash z
-opening-no (no f) k w e = (f, refl, cc, cc)
+pub opening-no : (o : Out Name Head) (k : ℕ) (x : Title) (w : ℕ) → Refused k x w ≡ openingOf o → ToldAs o k x w
+opening-no (ok h m) k x w e = let z : _≡_ {A = ℕ} 0 1 = cc in clash z
+opening-no (no f) k x w e = (f, refl, cc, cc, cc)
 
 -- behind bits that are taken already
 shifted : (n : ℕ) (o : Out Name Head) → openingBehind n (openingOf o) ≡ openingOf (widened n o)
@@ -55,8 +58,8 @@ shifted n (ok h m) = refl
 shifted n (no f) = refl
 
 -- a fault, by what is told of it
-by-told : (j w : ℕ) (f : Fault Name) (o : Out Name Head) → j ≡ numberIn f → w ≡ offsetIn f → o ≡ no f → Refused j w ≡ openingOf o
-by-told j w f o x y q = rw (q, x, y)
+by-told : (j : ℕ) (x : Title) (w : ℕ) (f : Fault Name) (o : Out Name Head) → j ≡ numberIn f → x ≡ elementOf (elementIn f) → w ≡ offsetIn f → o ≡ no f → Refused j x w ≡ openingOf o
+by-told j x w f o k n y q = rw (q, k, n, y)
 
 -- ---- how many bits a table takes
 
@@ -160,17 +163,17 @@ module _ (name : Name) (k x : ℕ) (p : Syntax Name Head) (at : ℕ) (bits : Lis
   abbrev table : Syntax Name Head
   table = ranged name variable k (pos x) (pos x) >> p
 
-  pub one-no : (j w : ℕ) → RefusedNumber j w ≡ numberOf (ue nameless mostZeros at (drop at bits)) → Refused j w ≡ openingOf (read table at (drop at bits))
+  pub one-no : (j w : ℕ) → RefusedNumber j w ≡ numberOf (ue nameless mostZeros at (drop at bits)) → Refused j (elementOf name) w ≡ openingOf (read table at (drop at bits))
   one-no j w e =
       let s = drop at bits in
-      let f = is-no (ue name mostZeros at s) j w (e ∙ named-ue name at s mostZeros) in
-      by-told j w (f .0) (read table at s) (f .2) (f .3) (ranged-no name k (pos x) (pos x) (λ z. p) at s (f .0) (f .1))
+      let f = refused-ue name at s j w e in
+      by-told j (elementOf name) w (f .0) (read table at s) (f .2) (ap elementOf (f .3)) (f .4) (ranged-no name k (pos x) (pos x) (λ z. p) at s (f .0) (f .1))
 
   module _ (v n : ℕ) (e : IsNumber v n ≡ numberOf (ue nameless mostZeros at (drop at bits))) where
     stands : ue name mostZeros at (drop at bits) ≡ ok v n
     stands = is-ok (ue name mostZeros at (drop at bits)) v n (e ∙ named-ue name at (drop at bits) mostZeros)
 
-    pub one-other : (v ≡ x → ⊥) → refusedOpening k at ≡ openingOf (read table at (drop at bits))
+    pub one-other : (v ≡ x → ⊥) → refusedOpening k (elementOf name) at ≡ openingOf (read table at (drop at bits))
     one-other h = sym (ap openingOf (read-ranged name variable k (pos x) (pos x) (λ z. p) at (drop at bits)) ∙ rw (stands, range-of-one x v, ne-eqb v x h) refl)
 
     pub one-on : v ≡ x → openingBehind n (openingOf (read p (at + n) (drop (at + n) bits))) ≡ openingOf (read table at (drop at bits))
@@ -183,12 +186,12 @@ module _ (at : ℕ) (bits : List Bool) where
   abbrev byFlag : ℕ → Syntax Name Head
   byFlag f = cond (eqb f 1) blockCount (done (announced false 0))
 
-  pub flag-no : (j w : ℕ) → RefusedNumber j w ≡ numberOf (u nameless 1 at (drop at bits)) → Refused j w ≡ openingOf (read fromFlag at (drop at bits))
+  pub flag-no : (j w : ℕ) → RefusedNumber j w ≡ numberOf (u nameless 1 at (drop at bits)) → Refused j MetadataRefreshFlag w ≡ openingOf (read fromFlag at (drop at bits))
   unfolding fromFlag
   flag-no j w e =
       let s = drop at bits in
-      let f = is-no (u «metadata_refresh_flag» 1 at s) j w (e ∙ named-u «metadata_refresh_flag» at s 1) in
-      by-told j w (f .0) (read fromFlag at s) (f .2) (f .3) (any-no «metadata_refresh_flag» 1 (λ z. byFlag (natural z)) at s (f .0) (f .1))
+      let f = refused-u «metadata_refresh_flag» at s j w 1 e in
+      by-told j MetadataRefreshFlag w (f .0) (read fromFlag at s) (f .2) (ap elementOf (f .3)) (f .4) (any-no «metadata_refresh_flag» 1 (λ z. byFlag (natural z)) at s (f .0) (f .1))
 
   module _ (v n : ℕ) (e : IsNumber v n ≡ numberOf (u nameless 1 at (drop at bits))) where
     flag-is : u «metadata_refresh_flag» 1 at (drop at bits) ≡ ok v n
@@ -207,11 +210,11 @@ module _ (at : ℕ) (bits : List Bool) where
 
 -- num_ext_blocks
 module _ (at : ℕ) (s : List Bool) where
-  pub count-no : (j w : ℕ) → RefusedNumber j w ≡ numberOf (ue nameless mostZeros at s) → Refused j w ≡ openingOf (read blockCount at s)
+  pub count-no : (j w : ℕ) → RefusedNumber j w ≡ numberOf (ue nameless mostZeros at s) → Refused j NumExtBlocks w ≡ openingOf (read blockCount at s)
   unfolding blockCount
   count-no j w e =
-      let f = is-no (ue «num_ext_blocks» mostZeros at s) j w (e ∙ named-ue «num_ext_blocks» at s mostZeros) in
-      by-told j w (f .0) (read blockCount at s) (f .2) (f .3) (ranged-no «num_ext_blocks» tooManyBlocks (pos 0) (pos mostAnnounced) (λ n. done (announced true (natural n))) at s (f .0) (f .1))
+      let f = refused-ue «num_ext_blocks» at s j w e in
+      by-told j NumExtBlocks w (f .0) (read blockCount at s) (f .2) (ap elementOf (f .3)) (f .4) (ranged-no «num_ext_blocks» tooManyBlocks (pos 0) (pos mostAnnounced) (λ n. done (announced true (natural n))) at s (f .0) (f .1))
 
   module _ (v n : ℕ) (e : IsNumber v n ≡ numberOf (ue nameless mostZeros at s)) where
     count : ue «num_ext_blocks» mostZeros at s ≡ ok v n
@@ -221,7 +224,7 @@ module _ (at : ℕ) (s : List Bool) where
     unfolding blockCount read
     count-is h = sym (ap openingOf (read-ranged «num_ext_blocks» variable tooManyBlocks (pos 0) (pos mostAnnounced) (λ m. done (announced true (natural m))) at s) ∙ rw (count, le-leb 0 v (omega arith), le-leb v mostAnnounced h, add-zero n) refl)
 
-    pub count-many : mostAnnounced < v → refusedOpening tooManyBlocks at ≡ openingOf (read blockCount at s)
+    pub count-many : mostAnnounced < v → refusedOpening tooManyBlocks NumExtBlocks at ≡ openingOf (read blockCount at s)
     unfolding blockCount
     count-many h = sym (ap openingOf (read-ranged «num_ext_blocks» variable tooManyBlocks (pos 0) (pos mostAnnounced) (λ m. done (announced true (natural m))) at s) ∙ rw (count, le-leb 0 v (omega arith), lt-leb v mostAnnounced h) refl)
 
@@ -245,10 +248,10 @@ module _ (h : Head) (at : ℕ) (s : List Bool) where
   unfolding alignedHead read
   aligned-all n e = read-then (firstAlignment (h .count)) (λ y. done h) at s ∙ rw (first-read (eqb (h .count) 0), e, add-zero n) refl
 
-  pub aligned-no : (j w : ℕ) → RefusedNumber j w ≡ spanOf (read (zeroBits nameless gap) at s) → Refused j w ≡ openingOf (read (alignedHead h) at s)
+  pub aligned-no : (j w : ℕ) → RefusedNumber j w ≡ spanOf (read (zeroBits nameless gap) at s) → Refused j DmAlignmentZeroBit w ≡ openingOf (read (alignedHead h) at s)
   aligned-no j w e =
-      let f = spans-no (read (zeroBits «dm_alignment_zero_bit» gap) at s) j w (e ∙ named-zeros «dm_alignment_zero_bit» gap at s) in
-      by-told j w (f .0) (read (alignedHead h) at s) (f .2) (f .3) (aligned-none (f .0) (f .1))
+      let f = refused-zeros «dm_alignment_zero_bit» at s j w gap e in
+      by-told j DmAlignmentZeroBit w (f .0) (read (alignedHead h) at s) (f .2) (ap elementOf (f .3)) (f .4) (aligned-none (f .0) (f .1))
 
   module _ (z n : ℕ) (e : IsNumber z n ≡ spanOf (read (zeroBits nameless gap) at s)) where
     gap-read : read (zeroBits «dm_alignment_zero_bit» gap) at s ≡ ok tt n
@@ -262,11 +265,11 @@ module _ (h : Head) (at : ℕ) (s : List Bool) where
 
 -- the head, and its zero bits
 module _ (s : List Bool) where
-  pub head-no : (j w : ℕ) → Refused j w ≡ openingOf (read head 0 s) → Refused j w ≡ openingOf (read opening 0 s)
+  pub head-no : (j : ℕ) (x : Title) (w : ℕ) → Refused j x w ≡ openingOf (read head 0 s) → Refused j x w ≡ openingOf (read opening 0 s)
   unfolding opening
-  head-no j w e =
-      let f = opening-no (read head 0 s) j w e in
-      by-told j w (f .0) (read opening 0 s) (f .2) (f .3) (then-no head alignedHead 0 s (f .0) (f .1))
+  head-no j x w e =
+      let f = opening-no (read head 0 s) j x w e in
+      by-told j x w (f .0) (read opening 0 s) (f .2) (f .3) (f .4) (then-no head alignedHead 0 s (f .0) (f .1))
 
   pub head-on : (h : Head) (n : ℕ) → read head 0 s ≡ ok h n → openingBehind n (openingOf (read (alignedHead h) n (drop n s))) ≡ openingOf (read opening 0 s)
   unfolding opening

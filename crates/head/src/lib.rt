@@ -1,5 +1,6 @@
 // Reads what stands before the blocks of ST2094-10_data: table E.1.1 of A/341 as far as num_ext_blocks, and the zero bits behind it.
 use bits::Number;
+use element::Element;
 ghost use mathlib.Core.Path.{_≡_};
 ghost use mathlib.Core.Bool.{cond};
 ghost use Prim.Native.Nat.{_+_, _<_, _≤_, _^_};
@@ -11,12 +12,12 @@ ghost use Rattle.syntax.specs.Data.{announced, blockCount, head};
 ghost use Rattle.head.specs.Opening.{openingOf, openingBehind, openingTook, refusedOpening, fromFlag, fromVersion, alignedHead, opening};
 
 // A/341, E.1: the one app_identifier and app_version that this reader knows.
-const IDENTIFIER: u32 = 1;
+pub const IDENTIFIER: u32 = 1;
 
-const VERSION: u32 = 0;
+pub const VERSION: u32 = 0;
 
 // 02, b: up to 254 blocks may be announced.
-const MOST_ANNOUNCED: u32 = 254;
+pub const MOST_ANNOUNCED: u32 = 254;
 
 // What stands before the blocks and how many bits it took, or why there is none.
 pub enum Opening {
@@ -27,16 +28,18 @@ pub enum Opening {
     },
     Refused {
         number: u8,
+        element: Element,
         offset: u32,
     },
 }
 
-fn refuse(number: u8, at: usize) -> Opening
+fn refuse(number: u8, element: Element, at: usize) -> Opening
     requires { ⌜ at < 2 ^ 32 ⌝ }
-    ensures { λ r. ⌜ r ≡ refusedOpening number at ⌝ }
+    ensures { λ r. ⌜ r ≡ refusedOpening number element at ⌝ }
 {
     Opening::Refused {
         number,
+        element,
         offset: at as u32,
     }
 }
@@ -47,7 +50,15 @@ fn behind(n: usize, rest: Opening) -> Opening
     ensures { λ r. ⌜ r ≡ openingBehind n rest ⌝ }
 {
     match rest {
-        Opening::Refused { number, offset } => Opening::Refused { number, offset },
+        Opening::Refused {
+            number,
+            element,
+            offset,
+        } => Opening::Refused {
+            number,
+            element,
+            offset,
+        },
         Opening::Is {
             refresh,
             count,
@@ -66,7 +77,11 @@ fn read_count(s: &[u8], at: usize) -> Opening
     ensures { λ r. ⌜ r ≡ openingOf (read blockCount at (drop at (bitsOf (now (s .entry))))) ⌝ }
 {
     match bits::read_ue(s, at, bits::MOST_ZEROS) {
-        Number::Refused { number, offset } => Opening::Refused { number, offset },
+        Number::Refused { number, offset } => Opening::Refused {
+            number,
+            element: Element::NumExtBlocks,
+            offset,
+        },
         Number::Is { value: n, width } => {
             if n <= MOST_ANNOUNCED {
                 Opening::Is {
@@ -75,7 +90,7 @@ fn read_count(s: &[u8], at: usize) -> Opening
                     width,
                 }
             } else {
-                refuse(refusals::TOO_MANY_BLOCKS, at)
+                refuse(refusals::TOO_MANY_BLOCKS, Element::NumExtBlocks, at)
             }
         }
     }
@@ -87,7 +102,11 @@ fn read_flag(s: &[u8], at: usize) -> Opening
     ensures { λ r. ⌜ r ≡ openingOf (read fromFlag at (drop at (bitsOf (now (s .entry))))) ⌝ }
 {
     match bits::read_u(s, at, 1) {
-        Number::Refused { number, offset } => Opening::Refused { number, offset },
+        Number::Refused { number, offset } => Opening::Refused {
+            number,
+            element: Element::MetadataRefreshFlag,
+            offset,
+        },
         Number::Is {
             value: flag,
             width: n,
@@ -110,13 +129,17 @@ fn read_version(s: &[u8], at: usize) -> Opening
     ensures { λ r. ⌜ r ≡ openingOf (read fromVersion at (drop at (bitsOf (now (s .entry))))) ⌝ }
 {
     match bits::read_ue(s, at, bits::MOST_ZEROS) {
-        Number::Refused { number, offset } => Opening::Refused { number, offset },
+        Number::Refused { number, offset } => Opening::Refused {
+            number,
+            element: Element::AppVersion,
+            offset,
+        },
         Number::Is {
             value: version,
             width: n,
         } => {
             if version != VERSION {
-                return refuse(refusals::WRONG_VERSION, at);
+                return refuse(refusals::WRONG_VERSION, Element::AppVersion, at);
             }
             behind(n, read_flag(s, at + n))
         }
@@ -128,13 +151,17 @@ fn read_identifier(s: &[u8]) -> Opening
     ensures { λ r. ⌜ r ≡ openingOf (read head 0 (bitsOf (now (s .entry)))) ⌝ }
 {
     match bits::read_ue(s, 0, bits::MOST_ZEROS) {
-        Number::Refused { number, offset } => Opening::Refused { number, offset },
+        Number::Refused { number, offset } => Opening::Refused {
+            number,
+            element: Element::AppIdentifier,
+            offset,
+        },
         Number::Is {
             value: identifier,
             width: n,
         } => {
             if identifier != IDENTIFIER {
-                return refuse(refusals::WRONG_IDENTIFIER, 0);
+                return refuse(refusals::WRONG_IDENTIFIER, Element::AppIdentifier, 0);
             }
             behind(n, read_version(s, n))
         }
@@ -154,7 +181,11 @@ fn read_padding(s: &[u8], n: usize, refresh: bool, count: u8) -> Opening
     ensures { λ r. ⌜ r ≡ openingBehind n (openingOf (read (alignedHead (announced refresh count)) n (drop n (bitsOf (now (s .entry)))))) ⌝ }
 {
     match bits::read_zeros(s, n, zeros_behind(count != 0, n)) {
-        Number::Refused { number, offset } => Opening::Refused { number, offset },
+        Number::Refused { number, offset } => Opening::Refused {
+            number,
+            element: Element::DmAlignmentZeroBit,
+            offset,
+        },
         Number::Is { width, .. } => Opening::Is {
             refresh,
             count,
@@ -168,7 +199,15 @@ pub fn read_head(s: &[u8]) -> Opening
     ensures { λ r. ⌜ r ≡ openingOf (read opening 0 (bitsOf (now (s .entry)))) ⌝ }
 {
     match read_identifier(s) {
-        Opening::Refused { number, offset } => Opening::Refused { number, offset },
+        Opening::Refused {
+            number,
+            element,
+            offset,
+        } => Opening::Refused {
+            number,
+            element,
+            offset,
+        },
         Opening::Is {
             refresh,
             count,

@@ -7,6 +7,7 @@ use Rattle.record.specs.declared.Block.{Block}
 use Rattle.record.specs.declared.Block.the-variants.{Level1, Level2, Level5}
 use Rattle.record.specs.Level.{level}
 use Rattle.record.specs.Made.{recordOf}
+use Rattle.cause.specs.Cause.{nothing}
 use Rattle.reader.specs.declared.Reading.{Reading}
 
 -- n level 2 blocks, all numbers of four digits
@@ -16,4 +17,4 @@ wideTrims (suc n) = Level2 (1000 + n) 4095 4095 4095 4095 4095 (negsuc 4095) ∷
 
 -- any 32 bits may stand for the bits read
 unfoldable pub longest : Reading
-longest = record { result = 0; bits = 2 ^ 32 - 1; skipped = 0; offset = 0; «in_wrapper» = false; «record» = recordOf true (Level1 4095 4095 4095 ∷ (wideTrims (level 2 .most) ++ (Level5 8191 8191 8191 8191 ∷ []))) }
+longest = record { result = 0; bits = 2 ^ 32 - 1; skipped = 0; offset = 0; «in_wrapper» = false; cause = nothing; «record» = recordOf true (Level1 4095 4095 4095 ∷ (wideTrims (level 2 .most) ++ (Level5 8191 8191 8191 8191 ∷ []))) }

@@ -36,8 +36,8 @@ fn put_level1(out: &mut [u8], at: usize, min: u16, max: u16, avg: u16) -> usize
     requires { ⌜ RoomForText (now out) at (text (fieldLines (level 1 .fields) (pos min ∷ pos max ∷ pos avg ∷ []))) ⌝ }
     ensures { λ r. ⌜ Typed (now (out .entry)) at (text (fieldLines (level 1 .fields) (pos min ∷ pos max ∷ pos avg ∷ []))) (now (out .exit)) r ⌝ }
 {
-    let p = text::put_two(out, at, b"min=", min as u32, b"max=", max as u32);
-    text::put_line(out, p, b"avg=", avg as u32)
+    let p = text::put_two(out, at, b"min=", min as u64, b"max=", max as u64);
+    text::put_line(out, p, b"avg=", avg as u64)
 }
 
 fn put_level2(
@@ -54,15 +54,15 @@ fn put_level2(
     requires { ⌜ RoomForText (now out) at (text (fieldLines (level 2 .fields) (pos target ∷ pos slope ∷ pos offset ∷ pos power ∷ pos chroma ∷ pos saturation ∷ weight ∷ []))) ⌝ }
     ensures { λ r. ⌜ Typed (now (out .entry)) at (text (fieldLines (level 2 .fields) (pos target ∷ pos slope ∷ pos offset ∷ pos power ∷ pos chroma ∷ pos saturation ∷ weight ∷ []))) (now (out .exit)) r ⌝ }
 {
-    let p = text::put_two(out, at, b"target=", target as u32, b"slope=", slope as u32);
-    let q = text::put_two(out, p, b"offset=", offset as u32, b"power=", power as u32);
+    let p = text::put_two(out, at, b"target=", target as u64, b"slope=", slope as u64);
+    let q = text::put_two(out, p, b"offset=", offset as u64, b"power=", power as u64);
     let w = text::put_two(
         out,
         q,
         b"chroma=",
-        chroma as u32,
+        chroma as u64,
         b"saturation=",
-        saturation as u32,
+        saturation as u64,
     );
     text::put_signed(out, w, b"ms=", weight)
 }
@@ -71,8 +71,8 @@ fn put_level5(out: &mut [u8], at: usize, left: u16, right: u16, top: u16, bottom
     requires { ⌜ RoomForText (now out) at (text (fieldLines (level 5 .fields) (pos left ∷ pos right ∷ pos top ∷ pos bottom ∷ []))) ⌝ }
     ensures { λ r. ⌜ Typed (now (out .entry)) at (text (fieldLines (level 5 .fields) (pos left ∷ pos right ∷ pos top ∷ pos bottom ∷ []))) (now (out .exit)) r ⌝ }
 {
-    let p = text::put_two(out, at, b"left=", left as u32, b"right=", right as u32);
-    text::put_two(out, p, b"top=", top as u32, b"bottom=", bottom as u32)
+    let p = text::put_two(out, at, b"left=", left as u64, b"right=", right as u64);
+    text::put_two(out, p, b"top=", top as u64, b"bottom=", bottom as u64)
 }
 
 // The fields of a block.
@@ -128,7 +128,7 @@ fn put_block(out: &mut [u8], at: usize, b: Block) -> usize
     ensures { λ r. ⌜ Typed (now (out .entry)) at (text (blockLines b)) (now (out .exit)) r ⌝ }
 {
     let l = record::level_of(b);
-    let p = text::put_line(out, at, b"level=", l as u32);
+    let p = text::put_line(out, at, b"level=", l as u64);
     put_fields(out, p, b)
 }
 
@@ -154,8 +154,8 @@ fn put_head(out: &mut [u8], refresh: bool, bits: u32, count: u8) -> usize
     requires { ⌜ RoomForText (now out) 0 (text (headLines refresh bits count)) ⌝ }
     ensures { λ r. ⌜ Typed (now (out .entry)) 0 (text (headLines refresh bits count)) (now (out .exit)) r ⌝ }
 {
-    let p = text::put_two(out, 0, b"result=", 0, b"refresh=", refresh as u32);
-    text::put_two(out, p, b"bits=", bits, b"blocks=", count as u32)
+    let p = text::put_two(out, 0, b"result=", 0, b"refresh=", refresh as u64);
+    text::put_two(out, p, b"bits=", bits as u64, b"blocks=", count as u64)
 }
 
 fn put_accepted(out: &mut [u8], r: Record, bits: u32) -> usize
@@ -174,7 +174,7 @@ fn put_listing(out: &mut [u8], q: Reading) -> usize
     if q.result == 0 {
         put_accepted(out, q.record, q.bits)
     } else {
-        text::put_line(out, 0, b"result=", q.result as u32)
+        text::put_line(out, 0, b"result=", q.result as u64)
     }
 }
 

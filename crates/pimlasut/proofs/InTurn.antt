@@ -1,33 +1,41 @@
 -- Calls in turn: what one call leaves is what the next one reads. A placing and a join leave exactly their track, a reading its record.
-use Prim.Native.Nat.{ℕ, _≤_}
-use mathlib.Core.Path.{_≡_, refl}
+use Prim.Native.Nat.{ℕ, _+_, _*_, _/_, _%_, _^_, _≤_}
+use mathlib.Core.Path.{_≡_, refl, ap, _∙_}
 use mathlib.Core.Bool.{Bool, true, false, cond}
 use mathlib.Core.List.{List, [], _∷_}
 use native.Mathlib.Omega.{arith}
 use borrow.Author.Tests.{leb-true}
 use lib.Dec.{leb}
 use lib.IntN.{ℤ}
-use lib.ListN.{length, take}
+use lib.ListN.{length, take, getD}
 use Rattle.refusals.specs.Refusals.{notValid, tooManyPoints, notATrack}
 use Rattle.tree.specs.Bits.{bitsOf, Bytes}
 use Rattle.tree.specs.Reading.{Out, ok, no}
+use Rattle.element.specs.declared.Element.{Element}
+use Rattle.element.specs.declared.Element.the-variants.{Nothing, AppIdentifier, AppVersion, MetadataRefreshFlag, NumExtBlocks, DmAlignmentZeroBit, ExtBlockLength, ExtBlockLevel, MinPq, MaxPq, AvgPq, TargetMaxPq, TrimSlope, TrimOffset, TrimPower, TrimChromaWeight, TrimSaturationGain, MsWeight, ActiveAreaLeftOffset, ActiveAreaRightOffset, ActiveAreaTopOffset, ActiveAreaBottomOffset, ExtDmAlignmentZeroBit, End, Wrapper}
+use Rattle.element.specs.Element.{numberOf}
 use Rattle.record.specs.Name.{Name}
 use Rattle.record.specs.Blocks.{emptyRecord}
 use Rattle.valid.specs.Valid.{every, many, targets, allDiffer, valid}
 use Rattle.syntax.specs.Data.{Data, recordFrom, bareData}
 use Rattle.syntax.proofs.Exact.{accepted-is-a-payload}
 use Rattle.syntax.proofs.Records.{the-record-is-valid}
+use Rattle.cause.specs.declared.Kind.{Kind}
+use Rattle.cause.specs.declared.Kind.the-variants.{Untold, Range, Other}
+use Rattle.cause.specs.declared.Cause.{Cause}
+use Rattle.reader.specs.declared.Reading.{Reading}
 use Rattle.reader.specs.Reading.{readingOf, readBare}
 use Rattle.keyed.proofs.Mapped.{join-all}
 use Rattle.plan.specs.Limit.{mostPoints}
 use Rattle.plan.specs.Pictures.{pictures}
 use Rattle.track.specs.declared.Point.{Point}
 use Rattle.track.specs.Track.{number, padded, isTrack, joinOf, placedPoints}
+use Rattle.reason.specs.Reason.{reason, reasonText}
 use Rattle.flat.specs.Flat.{flat, recordIn}
 use Rattle.flat.proofs.Named.{length-in, flat-names, valid-is-typed}
 use Rattle.tables.specs.Table.{tableIn}
 use Rattle.tables.proofs.Back.{TypedPoint, AllTyped, padded-back, track-typed}
-use Rattle.pimlasut.specs.Boundary.{pointNamed, placing, placedTable, joining, joinedTable}
+use Rattle.pimlasut.specs.Boundary.{kindNumber, factsOf, pointNamed, placing, placedTable, joining, joinedTable}
 
 done-by : (u v w : Bool) → _≡_ {A = ℕ} (cond u (cond v (cond w 0 tooManyPoints) notATrack) notATrack) 0 → (u ≡ true) × (v ≡ true) × (w ≡ true)
 done-by true true true e = (refl, refl, refl)
@@ -64,3 +72,64 @@ reading-is-named s h e = go (bareData (bitsOf s)) refl
     go : (o : Out Name Data) → bareData (bitsOf s) ≡ o → recordIn (flat (readingOf o .«record»)) ≡ readingOf o .«record»
     go (ok d n) q = let p = the-record-is-valid d (accepted-is-a-payload s h d n q .0) in flat-names (recordFrom d) (valid-is-typed (recordFrom d) (p .places) (p .valid-record))
     go (no f) q = flat-names emptyRecord (valid-is-typed emptyRecord refl refl)
+
+-- and its facts name the cause: no two elements have one number, no two kinds, and no bit of the value is lost
+abbrev pub elements : List Element
+elements = Nothing ∷ AppIdentifier ∷ AppVersion ∷ MetadataRefreshFlag ∷ NumExtBlocks ∷ DmAlignmentZeroBit ∷ ExtBlockLength ∷ ExtBlockLevel ∷ MinPq ∷ MaxPq ∷ AvgPq ∷ TargetMaxPq ∷ TrimSlope ∷ TrimOffset ∷ TrimPower ∷ TrimChromaWeight ∷ TrimSaturationGain ∷ MsWeight ∷ ActiveAreaLeftOffset ∷ ActiveAreaRightOffset ∷ ActiveAreaTopOffset ∷ ActiveAreaBottomOffset ∷ ExtDmAlignmentZeroBit ∷ End ∷ Wrapper ∷ []
+
+element-back : (e : Element) → getD elements (numberOf e) Nothing ≡ e
+element-back Nothing = refl
+element-back AppIdentifier = refl
+element-back AppVersion = refl
+element-back MetadataRefreshFlag = refl
+element-back NumExtBlocks = refl
+element-back DmAlignmentZeroBit = refl
+element-back ExtBlockLength = refl
+element-back ExtBlockLevel = refl
+element-back MinPq = refl
+element-back MaxPq = refl
+element-back AvgPq = refl
+element-back TargetMaxPq = refl
+element-back TrimSlope = refl
+element-back TrimOffset = refl
+element-back TrimPower = refl
+element-back TrimChromaWeight = refl
+element-back TrimSaturationGain = refl
+element-back MsWeight = refl
+element-back ActiveAreaLeftOffset = refl
+element-back ActiveAreaRightOffset = refl
+element-back ActiveAreaTopOffset = refl
+element-back ActiveAreaBottomOffset = refl
+element-back ExtDmAlignmentZeroBit = refl
+element-back End = refl
+element-back Wrapper = refl
+
+abbrev pub kinds : List Kind
+kinds = Untold ∷ Range ∷ Other ∷ []
+
+kind-back : (k : Kind) → getD kinds (kindNumber k) Untold ≡ k
+kind-back Untold = refl
+kind-back Range = refl
+kind-back Other = refl
+
+value-back : (v : ℕ) → v % 2 ^ 32 + v / 2 ^ 32 * 2 ^ 32 ≡ v
+value-back v = omega arith
+
+abbrev pub causeBy : Element → Kind → (value lowest highest : ℕ) → Cause
+causeBy e k v low high = record { element = e; kind = k; value = v; lowest = low; highest = high }
+
+abbrev pub causeNamed : List ℕ → Cause
+causeNamed facts =
+    causeBy (getD elements (getD facts 4 0) Nothing) (getD kinds (getD facts 5 0) Untold) (getD facts 6 0 + getD facts 7 0 * 2 ^ 32) (getD facts 8 0) (getD facts 9 0)
+
+pub cause-is-named : (q : Reading) → causeNamed (factsOf q) ≡ q .cause
+cause-is-named q =
+    let c = q .cause in
+    let k = getD kinds (kindNumber (c .kind)) Untold in
+    let v = c .value % 2 ^ 32 + c .value / 2 ^ 32 * 2 ^ 32 in
+    ap (λ (e : Element). causeBy e k v (c .lowest) (c .highest)) (element-back (c .element)) ∙ ap (λ (k : Kind). causeBy (c .element) k v (c .lowest) (c .highest)) (kind-back (c .kind))
+    ∙ ap (λ (v : ℕ). causeBy (c .element) (c .kind) v (c .lowest) (c .highest)) (value-back (c .value))
+
+-- so the result and the facts of a reading tell the text that says why
+pub why-is-told : (q : Reading) → reason (q .result) (getD (factsOf q) 2 0) (causeNamed (factsOf q)) ≡ reasonText q
+why-is-told q = ap (λ (c : Cause). reason (q .result) (q .offset) c) (cause-is-named q)

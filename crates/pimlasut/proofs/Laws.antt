@@ -13,7 +13,6 @@ use Rattle.refusals.specs.Refusals.{unfitOutput, notValid, tooManyPoints, notAT
 use Rattle.output.specs.declared.Written.{Written}
 use Rattle.output.specs.Output.{writtenAs, bufferAs, fits}
 use Rattle.record.specs.declared.Record.{Record}
-use Rattle.record.specs.Blocks.{mostBlocks}
 use Rattle.record.proofs.Laws.{and-both}
 use Rattle.valid.specs.Valid.{valid, Proper}
 use Rattle.syntax.specs.Element.{payload}
@@ -37,6 +36,8 @@ use Rattle.track.specs.Track.{padded, joinOf, joinRefusal, joinAnswer, lookupAn
 use Rattle.track.specs.Inner.{pointAt, heldOf, missingOf, lookFrom, scanOf, chosenOf, filledTo, answerOf}
 use Rattle.track.proofs.Together.{laid, answer-is, table-is}
 use Rattle.track.proofs.Looking.{look-is, inside}
+use Rattle.reason.specs.Reason.{reasonText, longest, writeReason, reasonBuffer}
+use Rattle.reason.proofs.Longest.{longest-bytes}
 use Rattle.flat.specs.Flat.{flat, flatLength, recordIn}
 use Rattle.flat.proofs.Named.{length-in}
 use Rattle.tables.specs.Table.{pointIn, tableIn}
@@ -127,6 +128,22 @@ buffer-kept bytes good out n e = go good (fits bytes out) e
     go true false h = kept n out out (λ z. omega (arith, h, z))
     go false u h = kept n out out (λ z. omega (arith, h, z))
 
+few-as : (bytes : List ℕ) (good : Bool) (out : List ℕ) → (good ≡ true → length bytes < 4294967296) → writtenAs bytes good out .bytes < 4294967296
+few-as bytes good out few = go good (fits bytes out) few
+  where
+    go : (t u : Bool) → (t ≡ true → length bytes < 4294967296) → answerBy bytes t u .bytes < 4294967296
+    go true true h = h refl
+    go true false h = omega arith
+    go false u h = omega arith
+
+-- bytes of something, written, as they are given
+module _ (bytes : List ℕ) (good : Bool) (out : List ℕ) {w : Written} (f : w ≡ writtenAs bytes good out) where
+  given-as : (k : ℕ) {out′ : List ℕ} {n k′ : ℕ} → out′ ≡ bufferAs bytes good out → n ≡ w .result → k′ ≡ after n (w .bytes) k
+      → (n ≡ writtenAs bytes good out .result) × ((out′ ≡ after n (bufferAs bytes good out) out) × (k′ ≡ after n (writtenAs bytes good out .bytes) k))
+  given-as k {n = n} g h i =
+      let result = h ∙ ap (λ (w : Written). w .result) f in
+      (result, (g ∙ buffer-kept bytes good out n result, i ∙ ap (λ (w : Written). after n (w .bytes) k) f))
+
 -- a coding of records whose code has few bytes, if the record is proper
 abbrev pub FewBytes : (Record → List ℕ) → Type 0
 FewBytes code = (r : Record) → Proper r → length (code r) < 4294967296
@@ -139,14 +156,6 @@ few-wrapped-bytes r p = omega (arith, wrapped-length r (p .places) (p .valid-rec
 
 pub few-unit-bytes : FewBytes unitBytes
 few-unit-bytes r p = omega (arith, most-unit-bytes r p)
-
-few-bytes : (code : Record → List ℕ) → FewBytes code → (r : Record) (out : List ℕ) → length (r .places) ≡ mostBlocks → writtenAs (code r) (valid r) out .bytes < 4294967296
-few-bytes code few r out e = go (valid r) refl (fits (code r) out)
-  where
-    go : (t : Bool) → valid r ≡ t → (u : Bool) → answerBy (code r) t u .bytes < 4294967296
-    go true v true = few r (record { places = e; valid-record = v })
-    go true v false = omega arith
-    go false v u = omega arith
 
 -- a row's record, written in a coding, as it is given
 module _ (code : Record → List ℕ) (row : List ℤ) (out : List ℕ) (l : length row ≡ flatLength) {r : Record} (e : r ≡ recordIn (take flatLength (drop 0 row)))
@@ -164,18 +173,26 @@ module _ (code : Record → List ℕ) (row : List ℤ) (out : List ℕ) (l : len
   answer = f ∙ ap (λ (r : Record). writtenAs (code r) (valid r) out) whole
 
   pub few-written : FewBytes code → w .bytes < 4294967296
-  few-written few = omega (arith, ap (λ (w : Written). w .bytes) answer, few-bytes code few (recordIn row) out (length-in row))
+  few-written few =
+      omega (arith, ap (λ (w : Written). w .bytes) answer, few-as bytes good out (λ v. few (recordIn row) (record { places = length-in row; valid-record = v })))
 
   pub given-written : (k : ℕ) {out′ : List ℕ} {n k′ : ℕ} → out′ ≡ bufferAs (code r) (valid r) out → n ≡ w .result → k′ ≡ after n (w .bytes) k
       → (n ≡ ifSized (isRecord row) (writtenAs bytes good out .result)) × ((out′ ≡ after n (bufferAs bytes good out) out) × (k′ ≡ after n (writtenAs bytes good out .bytes) k))
-  given-written k {n = n} g h i =
-      let result = h ∙ ap (λ (w : Written). w .result) answer in (
-        result ∙ right (isRecord row) (writtenAs bytes good out .result) (eq-eqb (length row) flatLength l),
-        (
-          g ∙ ap (λ (r : Record). bufferAs (code r) (valid r) out) whole ∙ buffer-kept bytes good out n result,
-          i ∙ ap (λ (w : Written). after n (w .bytes) k) answer,
-        ),
-      )
+  given-written k g h i =
+      let p = given-as bytes good out answer k (g ∙ ap (λ (r : Record). bufferAs (code r) (valid r) out) whole) h i in
+      (p .0 ∙ right (isRecord row) (writtenAs bytes good out .result) (eq-eqb (length row) flatLength l), p .1)
+
+-- ---- a reason
+
+-- a reading's reason, written, as it is given
+module _ (expected : Reading) (out : List ℕ) {q : Reading} (e : q ≡ expected) {w : Written} (f : w ≡ writeReason q out) where
+  pub few-reason : length (reasonText q) ≤ length longest → w .bytes < 4294967296
+  few-reason h = omega (arith, ap (λ (w : Written). w .bytes) f, few-as (reasonText q) true out (λ t. omega (arith, h, longest-bytes)))
+
+  pub given-reason : (k : ℕ) {out′ : List ℕ} {n k′ : ℕ} → out′ ≡ reasonBuffer q out → n ≡ w .result → k′ ≡ after n (w .bytes) k
+      → (n ≡ writeReason expected out .result) × ((out′ ≡ after n (reasonBuffer expected out) out) × (k′ ≡ after n (writeReason expected out .bytes) k))
+  given-reason k g h i =
+      given-as (reasonText expected) true out (f ∙ ap (λ (q : Reading). writeReason q out) e) k (g ∙ ap (λ (q : Reading). reasonBuffer q out) e) h i
 
 -- ---- a lookup
 

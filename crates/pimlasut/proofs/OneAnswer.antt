@@ -18,6 +18,8 @@ use Rattle.pimlasut.proofs.pim_write_wrapped.Kinds as pim-write-wrapped
 use Rattle.pimlasut.proofs.pim_write_wrapped.Reads as pim-write-wrapped-contract
 use Rattle.pimlasut.proofs.pim_write_unit.Kinds as pim-write-unit
 use Rattle.pimlasut.proofs.pim_write_unit.Reads as pim-write-unit-contract
+use Rattle.pimlasut.proofs.pim_why_wrapped.Kinds as pim-why-wrapped
+use Rattle.pimlasut.proofs.pim_why_wrapped.Reads as pim-why-wrapped-contract
 use Rattle.pimlasut.proofs.pim_place.Kinds as pim-place
 use Rattle.pimlasut.proofs.pim_place.Reads as pim-place-contract
 use Rattle.pimlasut.proofs.pim_lookup.Kinds as pim-lookup
@@ -64,6 +66,9 @@ pim-write-wrapped-one κs a x y s t e f = let p = e .0 ∙ sym (f .0) in (p, cc,
 
 pub pim-write-unit-one : OneArrayAndNumber pim-write-unit.ps pim-write-unit.r pim-write-unit-contract.Post (λ κs s. now (s .1 .0)) (λ κs s. now (s .1 .1 .0))
 pim-write-unit-one κs a x y s t e f = let p = e .0 ∙ sym (f .0) in (p, cc, cc)
+
+pub pim-why-wrapped-one : OneArrayAndNumber pim-why-wrapped.ps pim-why-wrapped.r pim-why-wrapped-contract.Post (λ κs s. now (s .1 .0)) (λ κs s. now (s .1 .1 .0))
+pim-why-wrapped-one κs a x y s t e f = let p = e .0 ∙ sym (f .0) in (p, cc, cc)
 
 pub pim-place-one : OneArrayAndNumber pim-place.ps pim-place.r pim-place-contract.Post (λ κs s. now (s .1 .1 .0)) (λ κs s. now (s .1 .1 .1 .0))
 pim-place-one κs a x y s t e f = let p = e .0 ∙ sym (f .0) in (p, cc, cc)

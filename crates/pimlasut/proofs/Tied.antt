@@ -13,6 +13,8 @@ use Rattle.pimlasut.proofs.pim_write_wrapped.Kinds as pim-write-wrapped
 use Rattle.pimlasut.proofs.pim_write_wrapped.Reads as pim-write-wrapped-contract
 use Rattle.pimlasut.proofs.pim_write_unit.Kinds as pim-write-unit
 use Rattle.pimlasut.proofs.pim_write_unit.Reads as pim-write-unit-contract
+use Rattle.pimlasut.proofs.pim_why_wrapped.Kinds as pim-why-wrapped
+use Rattle.pimlasut.proofs.pim_why_wrapped.Reads as pim-why-wrapped-contract
 use Rattle.pimlasut.proofs.pim_shader.Kinds as pim-shader
 use Rattle.pimlasut.proofs.pim_shader.Reads as pim-shader-contract
 use Rattle.pimlasut.proofs.pim_place.Kinds as pim-place
@@ -39,6 +41,9 @@ pim-write-wrapped-asks-nothing κs a = tt
 
 pub pim-write-unit-asks-nothing : (κs : Lfts 3) (a : Dens κs pim-write-unit.ps) → pim-write-unit-contract.Pre κs a
 pim-write-unit-asks-nothing κs a = tt
+
+pub pim-why-wrapped-asks-nothing : (κs : Lfts 3) (a : Dens κs pim-why-wrapped.ps) → pim-why-wrapped-contract.Pre κs a
+pim-why-wrapped-asks-nothing κs a = tt
 
 pub pim-shader-asks-nothing : (κs : Lfts 2) (a : Dens κs pim-shader.ps) → pim-shader-contract.Pre κs a
 pim-shader-asks-nothing κs a = tt

@@ -1,5 +1,5 @@
 -- What the functions for C answer and leave: what the library's functions answer, of the record or the table that numbers name.
-use Prim.Native.Nat.{ℕ}
+use Prim.Native.Nat.{ℕ, _/_, _%_, _^_}
 use mathlib.Core.Path.{_≡_}
 use mathlib.Core.List.{List, [], _∷_}
 use mathlib.Core.Bool.{Bool, cond, _&&_}
@@ -8,6 +8,10 @@ use lib.IntN.{ℤ}
 use lib.ListN.{length}
 use Rattle.refusals.specs.Refusals.{unfitOutput}
 use Rattle.tree.specs.Bits.{bit}
+use Rattle.element.specs.Element.{numberOf}
+use Rattle.cause.specs.declared.Kind.{Kind}
+use Rattle.cause.specs.declared.Kind.the-variants.{Untold, Range, Other}
+use Rattle.cause.specs.declared.Cause.{Cause}
 use Rattle.reader.specs.declared.Reading.{Reading}
 use Rattle.reader.specs.Reading.{unplaced}
 use Rattle.plan.specs.Limit.{mostPoints}
@@ -37,13 +41,23 @@ isTable l = eqb (length l) tableLength
 
 -- ---- reading
 
--- the facts of a reading, as one row: the bits read, the number of blocks passed over, where a refused element begins, and 1 if that is
--- counted from the wrapper
+-- what is told of the values that are allowed, as a number: its place in the enum
+abbrev pub kindNumber : Kind → ℕ
+kindNumber Untold = 0
+kindNumber Range = 1
+kindNumber Other = 2
+
+-- why, as numbers: the element, the kind, the value's lower and upper 32 bits, and the lowest and the highest that are allowed
+abbrev pub causeFacts : Cause → List ℕ
+causeFacts c = numberOf (c .element) ∷ kindNumber (c .kind) ∷ c .value % 2 ^ 32 ∷ c .value / 2 ^ 32 ∷ c .lowest ∷ c .highest ∷ []
+
+-- the facts of a reading, as one row: the bits read, the number of blocks passed over, where a refused element begins, 1 if that is counted
+-- from the wrapper, and why
 abbrev pub factsOf : Reading → List ℕ
-factsOf q = q .bits ∷ q .skipped ∷ q .offset ∷ bit (q .«in_wrapper») ∷ []
+factsOf q = q .bits ∷ q .skipped ∷ q .offset ∷ bit (q .«in_wrapper») ∷ causeFacts (q .cause)
 
 abbrev pub factsLength : ℕ
-factsLength = 4
+factsLength = 10
 
 -- the row has as many numbers as the facts
 abbrev pub isFacts : List ℕ → Bool

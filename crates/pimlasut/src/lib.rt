@@ -1,7 +1,9 @@
 // The library for C: include/pimlasut.h has the same functions with C's types. A slice crosses as a pointer and a length.
 // A record crosses as 146 numbers and a table of points as 9,408 (crates flat, tables), because no enum crosses.
 // Every function answers the result number; on a refusal every lent array and number stays as it was, but the facts of a reading, which
-// say where then.
+// say where and why then.
+use cause::Cause;
+use cause::Kind;
 use output::Written;
 use plan::Sought;
 use reader::Reading;
@@ -9,7 +11,7 @@ use shader::Numbers;
 use track::Point;
 ghost use mathlib.Core.Path.{_≡_};
 ghost use mathlib.Core.Bool.{true, cond, _&&_};
-ghost use mathlib.Core.List.{[], _∷_};
+ghost use mathlib.Core.List.{_∷_};
 ghost use Prim.Native.Nat.{_<_};
 ghost use lib.Dec.{eqb};
 ghost use lib.ListN.{length};
@@ -23,9 +25,10 @@ ghost use Rattle.sei.specs.SeiUnit.{readUnit, writeUnit, unitBuffer};
 ghost use Rattle.shader.specs.Shader.{bitsIn, conversionResult, conversionBits};
 ghost use Rattle.plan.specs.Limit.{mostPoints};
 ghost use Rattle.track.specs.Track.{padded, placedPoints};
+ghost use Rattle.reason.specs.Reason.{writeReason, reasonBuffer};
 ghost use Rattle.flat.specs.Flat.{placeLength, flat, flatLength, recordIn, blockNamed};
 ghost use Rattle.tables.specs.Table.{flatTable, tableLength, pointIn};
-ghost use Rattle.pimlasut.specs.Boundary.{ifSized, after, isRecord, isTable, factsLength, factsOf, factsAfter, answerInto, singles, placing, placedTable, looking, joining, joinedTable, Patterns};
+ghost use Rattle.pimlasut.specs.Boundary.{ifSized, after, isRecord, isTable, kindNumber, causeFacts, factsLength, factsOf, factsAfter, answerInto, singles, placing, placedTable, looking, joining, joinedTable, Patterns};
 
 // 01, Refusal numbers, as C's functions give them.
 const WRONG_LENGTH: u32 = refusals::UNFIT_OUTPUT as u32;
@@ -38,8 +41,9 @@ const SINGLES: usize = 7;
 // ---- reading
 
 // The facts of a reading cross as one array: the bits read, the number of blocks passed over, where a refused element begins, and 1 if that
-// is counted from the wrapper.
-const FACTS: usize = 4;
+// is counted from the wrapper; then why: the element, what is told of the values that are allowed, the value's lower and upper 32 bits, and
+// the lowest and the highest that are allowed.
+const FACTS: usize = 10;
 
 fn mark(in_wrapper: bool) -> u32
     ensures { λ r. ⌜ r ≡ bit in_wrapper ⌝ }
@@ -47,14 +51,35 @@ fn mark(in_wrapper: bool) -> u32
     if in_wrapper { 1 } else { 0 }
 }
 
-fn put_facts(bits: u32, skipped: u32, offset: u32, mark: u32, facts: &mut [u32])
-    requires { ⌜ length (now facts) ≡ factsLength ⌝ }
-    ensures { λ _. ⌜ now (facts .exit) ≡ bits ∷ skipped ∷ offset ∷ mark ∷ [] ⌝ }
+// The kind's number: its place in the enum.
+fn kind_of(k: Kind) -> u32
+    ensures { λ r. ⌜ r ≡ kindNumber k ⌝ }
 {
+    match k {
+        Kind::Untold => 0,
+        Kind::Range => 1,
+        Kind::Other => 2,
+    }
+}
+
+fn put_facts(bits: u32, skipped: u32, offset: u32, mark: u32, c: Cause, facts: &mut [u32])
+    requires { ⌜ length (now facts) ≡ factsLength ⌝ }
+    ensures { λ _. ⌜ now (facts .exit) ≡ bits ∷ skipped ∷ offset ∷ mark ∷ causeFacts c ⌝ }
+{
+    let element = c.element;
+    let kind = c.kind;
+    let about = element::number_of(element) as u32;
+    let told = kind_of(kind);
     facts[0] = bits;
     facts[1] = skipped;
     facts[2] = offset;
     facts[3] = mark;
+    facts[4] = about;
+    facts[5] = told;
+    facts[6] = (c.value % 4294967296) as u32;
+    facts[7] = (c.value / 4294967296) as u32;
+    facts[8] = c.lowest as u32;
+    facts[9] = c.highest as u32;
 }
 
 // Beside a wrong length the facts are zeros; an array of another length stays as it was.
@@ -62,7 +87,8 @@ fn clear_facts(facts: &mut [u32])
     ensures { λ _. ⌜ now (facts .exit) ≡ factsAfter (unplaced unfitOutput) (now (facts .entry)) ⌝ }
 {
     if facts.len() == FACTS {
-        put_facts(0, 0, 0, 0, facts);
+        let nothing = cause::nothing();
+        put_facts(0, 0, 0, 0, nothing, facts);
     }
 }
 
@@ -72,11 +98,13 @@ fn give_reading(reading: Reading, numbers: &mut [i32], facts: &mut [u32]) -> u32
     ensures record { λ r. ⌜ now (numbers .exit) ≡ after r (flat (reading .«record»)) (now (numbers .entry)) ⌝ }
     ensures facts { λ _. ⌜ now (facts .exit) ≡ factsOf reading ⌝ }
 {
+    let c = reading.cause;
     put_facts(
         reading.bits,
         reading.skipped as u32,
         reading.offset,
         mark(reading.in_wrapper),
+        c,
         facts,
     );
     if reading.result != 0 {
@@ -182,6 +210,20 @@ pub extern "C" fn pim_write_unit(numbers: &[i32], out: &mut [u8], written: &mut 
     }
     let r = flat::get_record(numbers, 0);
     let answer = sei::write_unit(r, out);
+    give_written(answer, written)
+}
+
+// ---- why
+
+// Why wrapped data is refused, as text.
+#[no_mangle]
+pub extern "C" fn pim_why_wrapped(input: &[u8], out: &mut [u8], written: &mut u32) -> u32
+    ensures result { λ r. ⌜ r ≡ writeReason (readWrapped (now (input .entry))) (now (out .entry)) .result ⌝ }
+    ensures buffer { λ r. ⌜ now (out .exit) ≡ after r (reasonBuffer (readWrapped (now (input .entry))) (now (out .entry))) (now (out .entry)) ⌝ }
+    ensures bytes { λ r. ⌜ now (written .exit) ≡ after r (writeReason (readWrapped (now (input .entry))) (now (out .entry)) .bytes) (now (written .entry)) ⌝ }
+{
+    let reading = wrapper::read_wrapped(input);
+    let answer = reason::write_reason(reading, out);
     give_written(answer, written)
 }
 

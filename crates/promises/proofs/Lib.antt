@@ -4,6 +4,7 @@ pub mod Numbers
 pub mod Writing
 pub mod Units
 pub mod Where
+pub mod Why
 pub mod Starred
 pub mod Listing
 pub mod TrackLaws

@@ -8,9 +8,10 @@ use native.Mathlib.Omega.{arith}
 use lib.ListN.{length, take}
 use Rattle.refusals.specs.Refusals.{pastEnd, bytesRemain}
 use Rattle.tree.specs.Bits.{bitsOf, Bytes}
-use Rattle.tree.specs.Reading.{Fault, numberIn, Out, ok, no}
+use Rattle.tree.specs.Reading.{Allowed, between, otherThan, Fault, cutOff, overlong, breaks, numberIn, elementIn, Out, ok, no}
+use Rattle.tree.specs.Coding.{natural}
 use Rattle.tree.specs.Stands.{ToldAlike}
-use Rattle.record.specs.Name.{Name}
+use Rattle.record.specs.Name.{Name, elementOf}
 use Rattle.syntax.specs.Data.{Data, bareData}
 use Rattle.syntax.specs.Element.{dataPayload, WellFormedData}
 use Rattle.syntax.specs.Wrapper.{wrappedData, wrappedDataPayload}
@@ -20,6 +21,8 @@ use Rattle.syntax.proofs.Largest.{longest-length}
 use Rattle.syntax.proofs.Reasons.{the-reason-is-true, a-true-reason-is-given}
 use Rattle.syntax.proofs.Stands as bare
 use Rattle.syntax.proofs.Wrapped as wrapped
+use Rattle.cause.specs.Cause.{causeBy, causeOf}
+use Rattle.reader.specs.declared.Reading.{Reading}
 use Rattle.reader.specs.Reading.{readingOf, readBare}
 use Rattle.wrapper.specs.Wrapper.{readWrapped}
 
@@ -28,9 +31,30 @@ pub fault-of : (o : Out Name Data) → (readingOf o .result ≡ 0 → ⊥) → (
 fault-of (ok d n) h = absurd (h refl)
 fault-of (no f) h = (f, refl, refl)
 
--- faults that are told alike get one answer
-alike : (f g : Fault Name) → ToldAlike f g → readingOf (no g) ≡ readingOf (no f)
-alike f g t = rw (t .number, t .offset, t .element) refl
+-- what is told of a refusal, but for its value and what is allowed: its number, where it is, and its element
+pub record Placed (q r : Reading) : Type 0 where
+  pub result : q .result ≡ r .result
+  pub offset : q .offset ≡ r .offset
+  pub mark : q .«in_wrapper» ≡ r .«in_wrapper»
+  pub element : q .cause .element ≡ r .cause .element
+
+element-told : (f : Fault Name) → causeOf f .element ≡ elementOf (elementIn f)
+element-told (cutOff at n) = refl
+element-told (overlong at n) = refl
+element-told (breaks r) = go (r .allowed)
+  where
+    go : (a : Allowed) → causeBy (elementOf (r .element)) (natural (r .value)) a .element ≡ elementOf (r .element)
+    go (between low high) = refl
+    go (otherThan zs) = refl
+
+-- of faults that are told alike it is the same
+alike : (f g : Fault Name) → ToldAlike f g → Placed (readingOf (no g)) (readingOf (no f))
+alike f g t = record {
+  result = sym (t .number);
+  offset = rw (t .offset, t .element) refl;
+  mark = rw (t .element) refl;
+  element = element-told g ∙ ap elementOf (sym (t .element)) ∙ sym (element-told f);
+}
 
 pub number-of : {o : Out Name Data} (f : Fault Name) → o ≡ no f → readingOf o .result ≡ numberIn f
 number-of f e = ap (λ (o : Out Name Data). readingOf o .result) e
@@ -51,11 +75,13 @@ module _ (told : List Bool → Out Name Data) where
   fault-with k h s e = let x = fault-in s (not-done k h e) in (x .0, x .1, sym (x .2) ∙ e)
 
   stands : ((s t : List ℕ) (f : Fault Name) → told (bitsOf s) ≡ no f → (numberIn f ≡ pastEnd → ⊥) → (g : Fault Name) × (told (bitsOf (s ++ t)) ≡ no g) × ToldAlike f g)
-      → (s t : List ℕ) → (resultOf s ≡ 0 → ⊥) → (resultOf s ≡ 1 → ⊥) → readingOf (told (bitsOf (s ++ t))) ≡ readingOf (told (bitsOf s))
+      → (s t : List ℕ) → (resultOf s ≡ 0 → ⊥) → (resultOf s ≡ 1 → ⊥)
+      → Placed (readingOf (told (bitsOf (s ++ t)))) (readingOf (told (bitsOf s))) × ((resultOf s ≡ 12 → ⊥) → readingOf (told (bitsOf (s ++ t))) ≡ readingOf (told (bitsOf s)))
   stands law s t h k =
       let x = fault-in s h in
       let y = law s t (x .0) (x .1) (λ e. k (x .2 ∙ e)) in
-      ap readingOf (y .1) ∙ alike (x .0) (y .0) (y .2) ∙ sym (ap readingOf (x .1))
+      let p : Placed (readingOf (told (bitsOf (s ++ t)))) (readingOf (told (bitsOf s))) = rw (y .1, x .1) (alike (x .0) (y .0) (y .2)) in
+      (p, λ w. ap readingOf (y .1 ∙ ap no (sym (y .2 .whole (λ e. w (x .2 ∙ e))))) ∙ sym (ap readingOf (x .1)))
 
   never-1 : (n : ℕ) → ((s : List ℕ) → n ≤ length s → (f : Fault Name) → told (bitsOf s) ≡ no f → numberIn f ≡ pastEnd → ⊥) → (s : List ℕ) → n ≤ length s → resultOf s ≡ 1 → ⊥
   never-1 n law s l e = let x = fault-with 1 (omega arith) s e in law s l (x .0) (x .1) (x .2)
@@ -75,9 +101,10 @@ a-refusal-has-its-reason s h = let x = fault-in bareData s h in (x .0, the-reaso
 pub a-reason-gives-its-number : (s : List ℕ) (f : Fault Name) → Reason (bitsOf s) f → readBare s .result ≡ numberIn f
 a-reason-gives-its-number s f r = number-of f (a-true-reason-is-given (bitsOf s) f r)
 
--- ---- a refusal other than 1 stands, whatever bytes follow, with where it is
+-- ---- a refusal other than 1 stands, whatever bytes follow, with where it is and its element; and all of it, but that 12 counts the bytes
 
-pub a-refusal-other-than-1-stands : (s t : List ℕ) → (readBare s .result ≡ 0 → ⊥) → (readBare s .result ≡ 1 → ⊥) → readBare (s ++ t) ≡ readBare s
+pub a-refusal-other-than-1-stands : (s t : List ℕ) → (readBare s .result ≡ 0 → ⊥) → (readBare s .result ≡ 1 → ⊥)
+    → Placed (readBare (s ++ t)) (readBare s) × ((readBare s .result ≡ 12 → ⊥) → readBare (s ++ t) ≡ readBare s)
 a-refusal-other-than-1-stands = stands bareData bare.a-refusal-stands
 
 -- ---- 1: what is cut short
@@ -110,7 +137,8 @@ a-wrapped-refusal-has-its-reason s h = let x = fault-in wrappedData s h in (x .0
 pub a-wrapped-reason-gives-its-number : (s : List ℕ) (f : Fault Name) → WrappedReason (bitsOf s) f → readWrapped s .result ≡ numberIn f
 a-wrapped-reason-gives-its-number s f r = number-of f (wrapped.a-true-wrapped-reason-is-given (bitsOf s) f r)
 
-pub a-wrapped-refusal-other-than-1-stands : (s t : List ℕ) → (readWrapped s .result ≡ 0 → ⊥) → (readWrapped s .result ≡ 1 → ⊥) → readWrapped (s ++ t) ≡ readWrapped s
+pub a-wrapped-refusal-other-than-1-stands : (s t : List ℕ) → (readWrapped s .result ≡ 0 → ⊥) → (readWrapped s .result ≡ 1 → ⊥)
+    → Placed (readWrapped (s ++ t)) (readWrapped s) × ((readWrapped s .result ≡ 12 → ⊥) → readWrapped (s ++ t) ≡ readWrapped s)
 a-wrapped-refusal-other-than-1-stands = stands wrappedData wrapped.a-refusal-of-wrapped-data-stands
 
 pub every-proper-beginning-of-a-wrapped-payload-gets-1 : (d : Data) → WellFormedData d → (s t : List ℕ) → wrappedDataPayload d ≡ s ++ t → 0 < length t → readWrapped s .result ≡ 1

@@ -1,5 +1,5 @@
 -- The starred payloads of document 01, and the limits and the order of refusals, as one table each under one statement: of what the
--- functions answer.
+-- functions answer, but for the cause of a refusal, of which reason/proofs/Cases has the cases by hand.
 use mathlib.Core.Path.{_≡_, refl, ap, sym, _∙_}
 use mathlib.Core.List.{List, [], _∷_, map}
 use mathlib.Core.Bool.{false}
@@ -11,25 +11,30 @@ use Rattle.syntax.specs.Data.{Data, bareData}
 use Rattle.syntax.specs.Wrapper.{wrappedData}
 use Rattle.syntax.specs.Limits.{Outcome, accepted, refused, outcomeOf, Case, limits, codeNumbers, places, longPayloads, manyBlocks, starred, wrappedCases}
 use Rattle.syntax.proofs.Limits as tree
+use Rattle.cause.specs.Cause.{nothing}
 use Rattle.reader.specs.declared.Reading.{Reading}
 use Rattle.reader.specs.Reading.{readingOf, readBare}
 use Rattle.wrapper.specs.Wrapper.{readWrapped}
 
+-- an answer without the cause of its refusal
+abbrev pub causeless : Reading → Reading
+causeless q = record { result = q .result; bits = q .bits; skipped = q .skipped; offset = q .offset; «in_wrapper» = q .«in_wrapper»; cause = nothing; «record» = q .«record» }
+
 -- the answer that an outcome is
 abbrev pub answerFor : Outcome → Reading
-answerFor (accepted r bits skipped) = record { result = 0; bits = bits; skipped = skipped; offset = 0; «in_wrapper» = false; «record» = r }
-answerFor (refused n at mark) = record { result = n; bits = 0; skipped = 0; offset = at; «in_wrapper» = mark; «record» = emptyRecord }
+answerFor (accepted r bits skipped) = record { result = 0; bits = bits; skipped = skipped; offset = 0; «in_wrapper» = false; cause = nothing; «record» = r }
+answerFor (refused n at mark) = record { result = n; bits = 0; skipped = 0; offset = at; «in_wrapper» = mark; cause = nothing; «record» = emptyRecord }
 
 abbrev pub expected : Case → Reading
 expected c = answerFor (c .outcome)
 
 abbrev pub bare : Case → Reading
-bare c = readBare (c .bytes)
+bare c = causeless (readBare (c .bytes))
 
 abbrev pub wrapped : Case → Reading
-wrapped c = readWrapped (c .bytes)
+wrapped c = causeless (readWrapped (c .bytes))
 
-answered : (o : Out Name Data) → readingOf o ≡ answerFor (outcomeOf o)
+answered : (o : Out Name Data) → causeless (readingOf o) ≡ answerFor (outcomeOf o)
 answered (ok d n) = refl
 answered (no f) = refl
 

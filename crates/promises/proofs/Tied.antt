@@ -45,6 +45,9 @@ use Rattle.track.proofs.place as place
 use Rattle.listing.specs.Listing.{writeListing, listingBuffer}
 use Rattle.listing.proofs.write_listing.Kinds as write-listing
 use Rattle.listing.proofs.write_listing.Reads as write-listing-contract
+use Rattle.reason.specs.Reason.{writeReason, reasonBuffer}
+use Rattle.reason.proofs.write_reason.Kinds as write-reason
+use Rattle.reason.proofs.write_reason.Reads as write-reason-contract
 
 -- ---- reading and writing
 
@@ -75,6 +78,10 @@ write-unit-is κs a x s e = e
 pub write-listing-is : (κs : Lfts 1) (a : Dens κs write-listing.ps) (x : resT write-listing.r κs .Denot) (s : AtExit (endedOf 1 write-listing.ps write-listing.r) κs) → write-listing-contract.Post κs a x s
     → (x ≡ writeListing (a .0) (now (a .1 .0))) × (now (s .1 .0) ≡ listingBuffer (a .0) (now (a .1 .0)))
 write-listing-is κs a x s e = e
+
+pub write-reason-is : (κs : Lfts 1) (a : Dens κs write-reason.ps) (x : resT write-reason.r κs .Denot) (s : AtExit (endedOf 1 write-reason.ps write-reason.r) κs) → write-reason-contract.Post κs a x s
+    → (x ≡ writeReason (a .0) (now (a .1 .0))) × (now (s .1 .0) ≡ reasonBuffer (a .0) (now (a .1 .0)))
+write-reason-is κs a x s e = e
 
 pub shader-numbers-is : (κs : Lfts 0) (a : Dens κs shader-numbers.ps) (x : resT shader-numbers.r κs .Denot) (s : AtExit (endedOf 0 shader-numbers.ps shader-numbers.r) κs) → shader-numbers-contract.Post κs a x s
     → (x .result ≡ conversionResult (a .0)) × (bitsIn (x .numbers) ≡ conversionBits (a .0))
@@ -119,6 +126,9 @@ empty-asks-nothing κs a = tt
 
 pub write-listing-asks-nothing : (κs : Lfts 1) (a : Dens κs write-listing.ps) → write-listing-contract.Pre κs a
 write-listing-asks-nothing κs a = tt
+
+pub write-reason-asks-nothing : (κs : Lfts 1) (a : Dens κs write-reason.ps) → write-reason-contract.Pre κs a
+write-reason-asks-nothing κs a = tt
 
 -- ---- tracks, whose functions are walks by hand: their clauses
 

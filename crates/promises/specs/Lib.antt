@@ -3,3 +3,4 @@ pub mod Units
 pub mod Payloads
 pub mod Numbers
 pub mod Where
+pub mod Why

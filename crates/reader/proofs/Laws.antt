@@ -9,21 +9,25 @@ use borrow.Author.Tests.{eq-eqb, ne-eqb}
 use lib.Dec.{eqb}
 use lib.ListN.{length, drop, set, length-append}
 use lib.Seq.{drop-drop}
-use Rattle.refusals.specs.Refusals.{bytesRemain}
-use Rattle.tree.specs.Reading.{Rule, Fault, numberIn, offsetIn, meets, breaks, Out, ok, no, widened, mapped, toBoundary}
+use Rattle.refusals.specs.Refusals.{repeatedTarget, bytesRemain}
+use Rattle.tree.specs.Reading.{Rule, Fault, numberIn, elementIn, meets, breaks, Out, ok, no, widened, mapped, toBoundary}
 use Rattle.tree.specs.Syntax.{Syntax, done, zeroBits, alignment, leftOver, readWhole, read, _>>=_}
 use Rattle.tree.proofs.Truth.{clash, range-of-one}
 use Rattle.tree.proofs.Tables.{then-no, then-ok, then-done, then-same, then-then}
 use Rattle.bits.specs.declared.Number.the-variants.{Is as IsNumber, Refused as RefusedNumber}
-use Rattle.bits.specs.Answer.{nameless, numberOf, spanOf}
-use Rattle.bits.proofs.Reading.{Told, spans-ok, spans-no, named-zeros, widened-none}
+use Rattle.bits.specs.Answer.{nameless, spanOf}
+use Rattle.bits.proofs.Reading.{ToldOf, spans-ok, named-zeros, refused-zeros, widened-none}
+use Rattle.element.specs.declared.Element.{Element as Title}
+use Rattle.element.specs.declared.Element.the-variants.{DmAlignmentZeroBit, ExtBlockLevel, TargetMaxPq, End as Last}
 use Rattle.record.specs.declared.Block.{Block}
+use Rattle.record.specs.declared.Block.the-variants.{Nothing, Level1, Level2, Level5}
 use Rattle.record.specs.declared.Record.{Record}
-use Rattle.record.specs.Name.{Name, «dm_alignment_zero_bit», «end»}
+use Rattle.record.specs.Name.{Name, elementOf, «dm_alignment_zero_bit», «ext_block_level», «target_max_PQ», «end»}
+use Rattle.record.specs.Level.{level, levelOf}
 use Rattle.record.specs.Made.{recordOf}
 use Rattle.record.specs.Blocks.{mostBlocks, noBlocks, inRange, inOrder}
 use Rattle.record.proofs.Laws.{and-left, and-right, and-both}
-use Rattle.valid.specs.Valid.{isBlock, many, validBlock, mayFollow, repeatNumber, wellFormed, withBlock}
+use Rattle.valid.specs.Valid.{isBlock, many, validBlock, notTooMany, mayFollow, repeatNumber, repeatElement, wellFormed, withBlock}
 use Rattle.valid.proofs.Clauses.{well-formed-more, few-blocks, few-of-level-2}
 use Rattle.valid.proofs.Made.{made-more}
 use Rattle.syntax.specs.Data.{Head, Item, kept, passed, keptIn, passedIn, Data, block, blocksAfter, head, firstAlignment, «ST2094-10_data», bareData}
@@ -35,7 +39,8 @@ use Rattle.syntax.proofs.Largest.{blockMost}
 use Rattle.syntax.proofs.Records.{kept-and-passed}
 use Rattle.syntax.proofs.Reasons.{kept-more}
 use Rattle.syntax.proofs.Named.{not-in-the-wrapper, told-in-bits}
-use Rattle.syntax.specs.Wrapper.{toldAt}
+use Rattle.syntax.specs.Wrapper.{inWrapper, toldAt}
+use Rattle.syntax.specs.Told.{ToldAs}
 use Rattle.block.specs.Parts.{partOf}
 use Rattle.block.specs.declared.Part.the-variants.{Kept, Passed, Refused as RefusedPart}
 use Rattle.block.proofs.Laws.{accepted-few, accepted-fits, part-kept, part-passed, part-no}
@@ -44,7 +49,10 @@ use Rattle.head.proofs.Laws.{zeros-took}
 use Rattle.met.specs.declared.Met.{Met}
 use Rattle.met.specs.Met.{mostTargets, targetOf, metOf, targetsMet}
 use Rattle.met.proofs.Laws.{met-store}
-use Rattle.reader.specs.Reading.{Summary, summary, summaryOf, summaryIn, acceptedReading, readingOf, refusedReading, endFrom, headAndBlocks}
+use Rattle.cause.specs.declared.Cause.{Cause}
+use Rattle.cause.specs.Cause.{causeIn}
+use Rattle.reader.specs.declared.End.the-variants.{Is as IsEnd, Refused as RefusedEnd}
+use Rattle.reader.specs.Reading.{Summary, summary, summaryOf, summaryIn, acceptedReading, readingOf, refusedReading, endFrom, endOf, headAndBlocks}
 
 -- what data comes to
 mapped-ok : {A B : Type 0} (f : A → B) (o : Out Name A) (b : B) (n : ℕ) → mapped f o ≡ ok b n → (a : A) × (o ≡ ok a n) × (f a ≡ b)
@@ -84,10 +92,10 @@ module _ (before : List Block) (k at : ℕ) (s : List Bool) where
   others i o = blocksAfter (before ++ keptIn (i ∷ [])) k >>= λ is. done (i ∷ is)
 
   blocks-repeated : (b : Block) (m : ℕ) → read block at s ≡ ok (kept b) m → mayFollow before b ≡ false
-      → Told (read (blocksAfter before (suc k)) at s) (repeatNumber before b) at
+      → ToldAs (read (blocksAfter before (suc k)) at s) (repeatNumber before b) (elementOf (repeatElement before b)) at
   blocks-repeated b m e h =
       let r = read-may-not-follow (others (kept b)) (at + m) (drop m s) at before b (fits-block b (own (kept b) m e)) h in
-      (breaks (r .0), next-read (kept b) m e ∙ ap (widened m) (r .3), sym (r .1), sym (r .2))
+      (breaks (r .0), next-read (kept b) m e ∙ ap (widened m) (r .4), sym (r .1), ap elementOf (sym (r .2)), sym (r .3))
 
   -- the rules let it through
   follows : (i : Item) (m : ℕ) → itemFits i ≡ true → itemFollows before i ≡ true → read (behind at before k i) (at + m) (drop m s) ≡ read (others i tt) (at + m) (drop m s)
@@ -113,6 +121,17 @@ unfolding passedIn
 passed-more [] i = sym (zero-add (passedIn (i ∷ [])))
 passed-more (kept b ∷ is) i = passed-more is i
 passed-more (passed l n zs ∷ is) i = omega (arith, passed-more is i)
+
+-- the number of a repeat tells what it is about
+repeat-named : (before : List Block) (b : Block) (number : ℕ) → number ≡ repeatNumber before b → cond (eqb number repeatedTarget) TargetMaxPq ExtBlockLevel ≡ elementOf (repeatElement before b)
+repeat-named before b number e = rw e (go (notTooMany before b) b)
+  where
+    go : (t : Bool) (b : Block) → cond (eqb (cond t repeatedTarget (level (levelOf b) .surplus)) repeatedTarget) TargetMaxPq ExtBlockLevel ≡ elementOf (cond t «target_max_PQ» «ext_block_level»)
+    go true b = refl
+    go false Nothing = refl
+    go false (Level1 min max avg) = refl
+    go false (Level2 t s o p c g m) = refl
+    go false (Level5 l r t b) = refl
 
 -- the walk over n blocks: i are met, they took `width` bits, r holds the known ones, m and ts what is kept of them, and the others are
 -- `skipped`; the answer from here is the answer from the start
@@ -184,10 +203,10 @@ module _ (flag : Bool) (bits : List Bool) (start n : ℕ) where
       onward : (o : Out Name (List Item)) → read (blocksAfter known (suc (n - (i + 1)))) there (drop there bits) ≡ o → allOf flag bits start n ≡ widened width (mapped (λ rest. summaryOf flag (x .met ++ rest)) o)
       onward o e = sym (x .answer) ∙ rw (next, e) refl
 
-      pub reached-no : (j w : ℕ) → RefusedPart j w ≡ partOf (read block there (drop there bits)) → Told (allOf flag bits start n) j w
-      reached-no j w e =
-          let f = part-no (read block there (drop there bits)) j w e in
-          (f .0, onward (no (f .0)) (blocks-no known (n - (i + 1)) there (drop there bits) (f .0) (f .1)), f .2, f .3)
+      pub reached-no : (j : ℕ) (x : Title) (w : ℕ) → RefusedPart j x w ≡ partOf (read block there (drop there bits)) → ToldAs (allOf flag bits start n) j x w
+      reached-no j x w e =
+          let f = part-no (read block there (drop there bits)) j x w e in
+          (f .0, onward (no (f .0)) (blocks-no known (n - (i + 1)) there (drop there bits) (f .0) (f .1)), f .2, f .3, f .4)
 
       -- with a block more, where it may follow
       reached-item : (j : Item) (w : ℕ) → read block there (drop there bits) ≡ ok j w → itemFollows known j ≡ true → (q : Record) (p : Met) (us : List ℕ) (k : ℕ)
@@ -242,11 +261,12 @@ module _ (flag : Bool) (bits : List Bool) (start n : ℕ) where
 
           -- and which repeat it is
           pub reached-repeated : test ≡ false → (number : ℕ) → ((before : List Block) → m ≡ metOf before → mayFollow before b ≡ false → number ≡ repeatNumber before b)
-              → Told (allOf flag bits start n) number there
-          reached-repeated f number told =
+              → (name : Title) → name ≡ cond (eqb number repeatedTarget) TargetMaxPq ExtBlockLevel → ToldAs (allOf flag bits start n) number name there
+          reached-repeated f number told name title =
               let may-not = sym may-follow-is ∙ f in
               let y = blocks-repeated known (n - (i + 1)) there (drop there bits) b w one-read may-not in
-              (y .0, onward (no (y .0)) (y .1), told known (x .counted) may-not ∙ y .2, y .3)
+              let j = told known (x .counted) may-not in
+              (y .0, onward (no (y .0)) (y .1), j ∙ y .2, title ∙ repeat-named known b number j ∙ y .3, y .4)
 
           module _ (f : test ≡ true) where
             may : mayFollow known b ≡ true
@@ -271,6 +291,16 @@ module _ (flag : Bool) (bits : List Bool) (start n : ℕ) where
                 (ap (λ (q : Record). withBlock q b) (x .made) ∙ made-more flag known b l ∙ ap (recordOf flag) (sym k))
                 (more known (x .counted) ∙ ap metOf (sym k))
                 (rw (x .aimed, x .counted) (met-store known b reached-twos) ∙ ap targetsMet (sym k)) (omega (arith, x .others, passed-more (x .met) (kept b)))
+
+-- ---- answers
+
+pub end-told : (o : Out Name ℕ) (j : ℕ) (x : Title) (w : ℕ) → RefusedEnd j x w ≡ endOf o → ToldAs o j x w
+end-told (ok a m) j x w e = let z : _≡_ {A = ℕ} 0 1 = cc in clash z
+end-told (no f) j x w e = (f, refl, cc, cc, cc)
+
+pub end-there : (o : Out Name ℕ) (bits : ℕ) → IsEnd bits ≡ endOf o → (n : ℕ) × (o ≡ ok bits n)
+end-there (ok a m) bits e = let x : a ≡ bits = cc in (m, ap (λ (k : ℕ). ok k m) x)
+end-there (no f) bits e = let z : _≡_ {A = ℕ} 0 1 = cc in clash z
 
 -- ---- what stands before the blocks, and the blocks
 
@@ -376,11 +406,13 @@ module _ (at : ℕ) (s : List Bool) where
   unfolding read
   aligned = refl
 
-  pub end-refused : (j w : ℕ) → RefusedNumber j w ≡ spanOf gap → RefusedNumber j w ≡ numberOf (endFrom at (drop at s))
-  end-refused j w e = go (spans-no (read (zeroBits «dm_alignment_zero_bit» (toBoundary at)) at (drop at s)) j w (e ∙ named-zeros «dm_alignment_zero_bit» (toBoundary at) at (drop at s)))
+  pub end-refused : (j w : ℕ) → RefusedNumber j w ≡ spanOf gap → RefusedEnd j DmAlignmentZeroBit w ≡ endOf (endFrom at (drop at s))
+  end-refused j w e = go (refused-zeros «dm_alignment_zero_bit» at (drop at s) j w (toBoundary at) e)
     where
-      go : Told (read (zeroBits «dm_alignment_zero_bit» (toBoundary at)) at (drop at s)) j w → RefusedNumber j w ≡ numberOf (endFrom at (drop at s))
-      go (f, q, x, y) = rw (aligned, q, x, y) refl
+      go : ToldOf (read (zeroBits «dm_alignment_zero_bit» (toBoundary at)) at (drop at s)) j «dm_alignment_zero_bit» w → RefusedEnd j DmAlignmentZeroBit w ≡ endOf (endFrom at (drop at s))
+      go (f, q, x, n, y) =
+          let z : endFrom at (drop at s) ≡ no f = rw (aligned, q) refl in
+          ap (λ (k : ℕ). RefusedEnd k DmAlignmentZeroBit w) x ∙ ap (λ (m : Name). RefusedEnd (numberIn f) (elementOf m) w) n ∙ ap (RefusedEnd (numberIn f) (elementOf (elementIn f))) y ∙ sym (ap endOf z)
 
   module _ (z m : ℕ) (e : IsNumber z m ≡ spanOf gap) where
     gap-read : read (zeroBits «dm_alignment_zero_bit» (toBoundary at)) at (drop at s) ≡ ok tt m
@@ -395,37 +427,36 @@ module _ (at : ℕ) (s : List Bool) where
     end-test : endFrom at (drop at s) ≡ widened m (cond (eqb left 0) (ok (at + m) 0) (no (breaks (rest s (at + m)))))
     end-test = zeros-then-end s at m (aligned ∙ gap-read) ∙ rw (range-of-one 0 left) refl
 
-    pub end-remains : (left ≡ 0 → ⊥) → RefusedNumber bytesRemain (at + m) ≡ numberOf (endFrom at (drop at s))
-    end-remains h = sym (ap numberOf end-test ∙ rw (ne-eqb left 0 h) refl)
+    pub end-remains : (left ≡ 0 → ⊥) → RefusedEnd bytesRemain Last (at + m) ≡ endOf (endFrom at (drop at s))
+    end-remains h = sym (ap endOf end-test ∙ rw (ne-eqb left 0 h) refl)
 
-    pub end-is : left ≡ 0 → IsNumber (at + m) m ≡ numberOf (endFrom at (drop at s))
-    end-is h = sym (ap numberOf end-test ∙ rw (eq-eqb left 0 h, add-zero m) refl)
+    pub end-is : left ≡ 0 → IsEnd (at + m) ≡ endOf (endFrom at (drop at s))
+    end-is h = sym (ap endOf end-test ∙ rw (eq-eqb left 0 h) refl)
 
 module _ (s : List Bool) where
-  -- the answer to data with a fault
-  abbrev pub Answers : Fault Name → Type 0
-  Answers f = refusedReading (numberIn f) (offsetIn f) false ≡ readingOf (bareData s)
+  -- the answer to data with a fault, of which the code has the number, the element and the offset
+  pub by-told : (j : ℕ) (x : Title) (w : ℕ) → ToldAs (bareData s) j x w → (c : Cause) → c ≡ causeIn (bareData s) → refusedReading j w false c ≡ readingOf (bareData s)
+  by-told j x w (f, e, k, n, y) c q =
+      let in-bits = y ∙ sym (told-in-bits s f e) in
+      ap (λ (i : ℕ). refusedReading i w false c) k ∙ ap (λ (at : ℕ). refusedReading (numberIn f) at false c) in-bits ∙ ap (λ (b : Bool). refusedReading (numberIn f) (toldAt f) b c) (sym (not-in-the-wrapper s f e))
+      ∙ ap (refusedReading (numberIn f) (toldAt f) (inWrapper f)) (q ∙ ap causeIn e) ∙ sym (ap readingOf e)
 
-  -- of which the code has the number and the offset
-  pub by-told : (j w : ℕ) (f : Fault Name) → j ≡ numberIn f → w ≡ offsetIn f → Answers f → refusedReading j w false ≡ readingOf (bareData s)
-  by-told j w f x y a = ap (λ (k : ℕ). refusedReading k w false) x ∙ ap (λ (at : ℕ). refusedReading (numberIn f) at false) y ∙ a
-
-  pub fault-told : (f : Fault Name) → bareData s ≡ no f → Answers f
-  fault-told f e =
-      ap (λ (at : ℕ). refusedReading (numberIn f) at false) (sym (told-in-bits s f e)) ∙ ap (refusedReading (numberIn f) (toldAt f)) (sym (not-in-the-wrapper s f e)) ∙ sym (ap readingOf e)
+  -- a part that is refused refuses the data
+  pub told-on : {A : Type 0} (o : Out Name A) (j : ℕ) (x : Title) (w : ℕ) → ToldAs o j x w → ((f : Fault Name) → o ≡ no f → bareData s ≡ no f) → ToldAs (bareData s) j x w
+  told-on o j x w (f, e, k, n, y) on = (f, on f e, k, n, y)
 
   data-refused : (f : Fault Name) → mapped summaryIn (read «ST2094-10_data» 0 s) ≡ no f → bareData s ≡ no f
   unfolding readWhole
   data-refused f e = rw (mapped-no summaryIn (read «ST2094-10_data» 0 s) f e) refl
 
   -- no head, no data
-  pub no-head : (f : Fault Name) → read opening 0 s ≡ no f → Answers f
-  no-head f e = fault-told f (data-refused f (data-read s ∙ then-no headAndBlocks ending 0 s f (both-no s f e)))
+  pub no-head : (f : Fault Name) → read opening 0 s ≡ no f → bareData s ≡ no f
+  no-head f e = data-refused f (data-read s ∙ then-no headAndBlocks ending 0 s f (both-no s f e))
 
   -- behind a head
   module _ (h : Head) (start : ℕ) (e : read opening 0 s ≡ ok h start) where
-    pub no-blocks : (f : Fault Name) → blocksFrom h start (drop start s) ≡ no f → Answers f
-    no-blocks f g = fault-told f (data-refused f (data-read s ∙ then-no headAndBlocks ending 0 s f (both-later s h start e f g)))
+    pub no-blocks : (f : Fault Name) → blocksFrom h start (drop start s) ≡ no f → bareData s ≡ no f
+    no-blocks f g = data-refused f (data-read s ∙ then-no headAndBlocks ending 0 s f (both-later s h start e f g))
 
     -- and behind the blocks
     module _ (r : Summary) (width : ℕ) (g : blocksFrom h start (drop start s) ≡ ok r width) where
@@ -447,8 +478,8 @@ module _ (s : List Bool) where
               let k = mapped-ok summaryIn (read «ST2094-10_data» 0 s) r (last + m) (before-the-end ∙ ap (widened last) (then-done (alignment «dm_alignment_zero_bit») (λ z. r) last (drop last s) ∙ ap (mapped (λ z. r)) q)) in
               rw (zeros-then-end s last m q, data-then-end s (k .0) (last + m) (k .1)) (by-the-end (meets (rest s (last + m))) (rest s (last + m)) (k .0) r (last + m) m (k .2))
 
-      pub no-end : (f : Fault Name) → endFrom last (drop last s) ≡ no f → Answers f
-      no-end f q = fault-told f (rw q at the-end)
+      pub no-end : (f : Fault Name) → endFrom last (drop last s) ≡ no f → bareData s ≡ no f
+      no-end f q = rw q at the-end
 
       pub at-the-end : (bits m : ℕ) → endFrom last (drop last s) ≡ ok bits m → acceptedReading bits (r .skipped) (r .«record») ≡ readingOf (bareData s)
       at-the-end bits m q =

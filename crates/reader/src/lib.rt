@@ -1,36 +1,42 @@
 // Reads ST2094-10_data from a lent slice.
 use bits::Number;
 use block::Part;
+use cause::Cause;
+use element::Element;
 use head::Opening;
 use met::Met;
 use record::Place;
 use record::Record;
 ghost use mathlib.Core.Path.{_≡_};
-ghost use mathlib.Core.Bool.{false};
+ghost use mathlib.Core.Bool.{false, cond};
 ghost use Prim.Native.Nat.{_<_, _^_};
+ghost use lib.Dec.{eqb};
 ghost use lib.ListN.{drop};
+ghost use Rattle.refusals.specs.Refusals.{repeatedTarget};
 ghost use Rattle.tree.specs.Bits.{bitsOf};
 ghost use Rattle.tree.specs.Reading.{ok};
 ghost use Rattle.tree.specs.Syntax.{read};
-ghost use Rattle.bits.specs.Answer.{numberOf};
-ghost use Rattle.syntax.specs.Data.{announced};
+ghost use Rattle.element.specs.declared.Element.the-variants.{ExtBlockLevel, TargetMaxPq};
+ghost use Rattle.syntax.specs.Data.{announced, bareData};
+ghost use Rattle.syntax.specs.Told.{ToldAs};
 ghost use Rattle.head.specs.Opening.{opening};
-ghost use Rattle.reader.specs.Reading.{refusedReading, unplaced, readBare, endFrom};
+ghost use Rattle.reader.specs.Reading.{refusedReading, unplaced, readBare, endFrom, endOf};
 
 // 0 or the number of the refusal, the number of blocks of reserved levels that were passed over and whether a refusal is in the wrapper
-// (beside it, where they take no room of their own), the bits read, where a refused element begins, and the record.
+// (beside it, where they take no room of their own), the bits read, where a refused element begins, why it is refused, and the record.
 pub struct Reading {
     pub result: u8,
     pub skipped: u8,
     pub in_wrapper: bool,
     pub bits: u32,
     pub offset: u32,
+    pub cause: Cause,
     pub record: Record,
 }
 
 // 01, The record: beside a refusal the record is empty.
-fn refused(number: u8, offset: u32) -> Reading
-    ensures { λ r. ⌜ r ≡ refusedReading number offset false ⌝ }
+fn with_cause(number: u8, offset: u32, cause: Cause) -> Reading
+    ensures { λ r. ⌜ r ≡ refusedReading number offset false cause ⌝ }
 {
     let record = Record::empty();
     Reading {
@@ -39,34 +45,75 @@ fn refused(number: u8, offset: u32) -> Reading
         in_wrapper: false,
         bits: 0,
         offset,
+        cause,
         record,
     }
 }
 
-// 02, e: a refusal of no element, as of a unit, has no place.
+// 02, e and f: a refusal of no element, as of a unit, has no place and no cause.
 pub fn unplaced(number: u8) -> Reading
     ensures { λ r. ⌜ r ≡ unplaced number ⌝ }
 {
-    refused(number, 0)
+    with_cause(number, 0, cause::nothing())
 }
 
-// What stands behind the last block: zero bits to the next byte boundary, where the input ends. Its number is the position there.
-fn read_end(s: &[u8], at: usize) -> Number
+// Data that is refused: what is not known of it yet is read again where the element begins.
+fn refused(s: &[u8], number: u8, element: Element, offset: u32) -> Reading
+    requires { ⌜ ToldAs (bareData (bitsOf (now s))) number element offset ⌝ }
+    ensures { λ r. ⌜ r ≡ readBare (now (s .entry)) ⌝ }
+{
+    with_cause(
+        number,
+        offset,
+        cause::cause_at(s, number, element, offset as usize),
+    )
+}
+
+// The element that a repeat is about, by its number.
+fn repeated(number: u8) -> Element
+    ensures { λ r. ⌜ r ≡ cond (eqb number repeatedTarget) TargetMaxPq ExtBlockLevel ⌝ }
+{
+    if number == refusals::REPEATED_TARGET {
+        Element::TargetMaxPq
+    } else {
+        Element::ExtBlockLevel
+    }
+}
+
+// The position where the data ends, or why it does not.
+enum End {
+    Is {
+        bits: u32,
+    },
+    Refused {
+        number: u8,
+        element: Element,
+        offset: u32,
+    },
+}
+
+// What stands behind the last block: zero bits to the next byte boundary, where the input ends.
+fn read_end(s: &[u8], at: usize) -> End
     requires { ⌜ at < 2 ^ 30 ⌝ }
-    ensures { λ r. ⌜ r ≡ numberOf (endFrom at (drop at (bitsOf (now (s .entry))))) ⌝ }
+    ensures { λ r. ⌜ r ≡ endOf (endFrom at (drop at (bitsOf (now (s .entry))))) ⌝ }
 {
     match bits::read_zeros(s, at, head::zeros_behind(true, at)) {
-        Number::Refused { number, offset } => Number::Refused { number, offset },
+        Number::Refused { number, offset } => End::Refused {
+            number,
+            element: Element::DmAlignmentZeroBit,
+            offset,
+        },
         Number::Is { width, .. } => {
             let end = at + width;
             let bits = end as u32;
             if end / 8 < s.len() {
-                Number::Refused {
+                End::Refused {
                     number: refusals::BYTES_REMAIN,
+                    element: Element::End,
                     offset: bits,
                 }
             } else {
-                Number::Is { value: bits, width }
+                End::Is { bits }
             }
         }
     }
@@ -87,8 +134,12 @@ fn read_blocks(s: &[u8], start: usize, refresh: bool, n: u8) -> Reading
     let mut i: u8 = 0;
     while i < n {
         match block::read_block(s, start + width) {
-            Part::Refused { number, offset } => {
-                return refused(number, offset);
+            Part::Refused {
+                number,
+                element,
+                offset,
+            } => {
+                return refused(s, number, element, offset);
             }
             Part::Passed { width: w } => {
                 skipped += 1;
@@ -106,19 +157,25 @@ fn read_blocks(s: &[u8], start: usize, refresh: bool, n: u8) -> Reading
                     width += m;
                     i += 1;
                 } else {
-                    return refused(met::repeat_of(seen, block), (start + width) as u32);
+                    let number = met::repeat_of(seen, block);
+                    return refused(s, number, repeated(number), (start + width) as u32);
                 }
             }
         }
     }
     match read_end(s, start + width) {
-        Number::Refused { number, offset } => refused(number, offset),
-        Number::Is { value: bits, .. } => Reading {
+        End::Refused {
+            number,
+            element,
+            offset,
+        } => refused(s, number, element, offset),
+        End::Is { bits } => Reading {
             result: 0,
             skipped,
             in_wrapper: false,
             bits,
             offset: 0,
+            cause: cause::nothing(),
             record: r,
         },
     }
@@ -129,7 +186,11 @@ pub fn read_data(input: &[u8]) -> Reading
     ensures { λ r. ⌜ r ≡ readBare (now (input .entry)) ⌝ }
 {
     match head::read_head(input) {
-        Opening::Refused { number, offset } => refused(number, offset),
+        Opening::Refused {
+            number,
+            element,
+            offset,
+        } => refused(input, number, element, offset),
         Opening::Is {
             refresh,
             count,

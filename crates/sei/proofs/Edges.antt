@@ -13,6 +13,7 @@ use Rattle.tree.specs.Coding.{totalWidth}
 use Rattle.valid.specs.Valid.{many, targets}
 use Rattle.record.specs.Made.{recordOf}
 use Rattle.syntax.specs.Data.{blockCount, head, content, reservedContent, wholeBlock, block, keptIn, passedIn, blocksAfter, «ST2094-10_data»}
+use Rattle.cause.specs.Cause.{nothing}
 use Rattle.reader.specs.declared.Reading.{Reading}
 use Rattle.wrapper.specs.Wrapper.{beginsWith}
 use Rattle.emulation.specs.Emulation.{removedBehind, forbidden}
@@ -111,7 +112,7 @@ unfolding bitsOf code valueFrom u i ue zerosThenOne amongZ totalWidth read _>>=_
 each-unit-gets-its-number = refl
 
 -- 02, b: a reserved block in our message is passed over, and counted
-pub a-reserved-block-in-a-unit : readUnit (0x4E ∷ 0x01 ∷ 0x04 ∷ 0x0B ∷ 0xB5 ∷ 0x00 ∷ 0x31 ∷ 0x47 ∷ 0x41 ∷ 0x39 ∷ 0x34 ∷ 0x09 ∷ 0x5A ∷ 0x81 ∷ 0x80 ∷ 0x80 ∷ []) ≡ record { result = 0; bits = 24; skipped = 1; offset = 0; «in_wrapper» = false; «record» = recordOf true [] }
+pub a-reserved-block-in-a-unit : readUnit (0x4E ∷ 0x01 ∷ 0x04 ∷ 0x0B ∷ 0xB5 ∷ 0x00 ∷ 0x31 ∷ 0x47 ∷ 0x41 ∷ 0x39 ∷ 0x34 ∷ 0x09 ∷ 0x5A ∷ 0x81 ∷ 0x80 ∷ 0x80 ∷ []) ≡ record { result = 0; bits = 24; skipped = 1; offset = 0; «in_wrapper» = false; cause = nothing; «record» = recordOf true [] }
 unfolding bitsOf code valueFrom u i ue zerosThenOne amongZ totalWidth read _>>=_ row zeroBits readWhole many targets blockCount head content reservedContent wholeBlock block keptIn passedIn blocksAfter «ST2094-10_data» wrapperTable beginsWith removedBehind forbidden chain frameOf messagesWithin firstOfOurs
 a-reserved-block-in-a-unit = refl
 

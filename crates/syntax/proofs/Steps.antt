@@ -14,10 +14,10 @@ use Rattle.tree.proofs.Truth.{clash, range-of-one}
 use Rattle.tree.proofs.Steps.{read-must}
 use Rattle.record.specs.declared.Block.{Block}
 use Rattle.record.specs.declared.Block.the-variants.{Nothing, Level1, Level2, Level5}
-use Rattle.record.specs.Name.{Name}
+use Rattle.record.specs.Name.{Name, «avg_PQ»}
 use Rattle.record.specs.Level.{level, known}
 use Rattle.record.specs.Blocks.{inOrder}
-use Rattle.valid.specs.Valid.{isBlock, many, targets, among, mayFollow, repeatNumber}
+use Rattle.valid.specs.Valid.{isBlock, many, targets, among, mayFollow, repeatNumber, repeatElement}
 use Rattle.syntax.specs.Data.{mostReserved, kept, lengthRule, averageRule, orderRules, surplusRule, targetRule, mayFollowRules}
 use Rattle.syntax.proofs.Items.{room-met, target-met}
 
@@ -41,9 +41,9 @@ module _ {B : Type 0} (g : Unit {0} → Syntax Name B) (at : ℕ) (s : List Bool
   read-in-order start (Level2 t q o p c w m) h = refl
   read-in-order start (Level5 l r t b) h = refl
 
-  pub read-not-in-order : (start : ℕ) (b : Block) → inOrder b ≡ false → (r : Rule Name) × (r .number ≡ notInOrder) × (r .offset ≡ start) × (read (orderRules start (kept b) >>= g) at s ≡ no (breaks r))
+  pub read-not-in-order : (start : ℕ) (b : Block) → inOrder b ≡ false → (r : Rule Name) × (r .number ≡ notInOrder) × (r .element ≡ «avg_PQ») × (r .offset ≡ start) × (read (orderRules start (kept b) >>= g) at s ≡ no (breaks r))
   read-not-in-order start Nothing h = let z : _≡_ {A = ℕ} 0 1 = cc in clash z
-  read-not-in-order start (Level1 min max avg) h = (averageRule start min max avg, refl, refl, by-test (averageRule start min max avg) false h)
+  read-not-in-order start (Level1 min max avg) h = (averageRule start min max avg, refl, refl, refl, by-test (averageRule start min max avg) false h)
   read-not-in-order start (Level2 t q o p c w m) h = let z : _≡_ {A = ℕ} 0 1 = cc in clash z
   read-not-in-order start (Level5 l r t b) h = let z : _≡_ {A = ℕ} 0 1 = cc in clash z
 
@@ -79,9 +79,9 @@ module _ {B : Type 0} (g : Unit {0} → Syntax Name B) (at : ℕ) (s : List Bool
       one true q k = by-test g at s (surplusRule start before 5) true (room-met start before (Level5 l r t b) f ∙ q)
       one false q k = let z : _≡_ {A = ℕ} 0 1 = cc in clash z
 
-  -- of one that may not, the rule that is broken: its number is that of the repeat, and its offset the block's
+  -- of one that may not, the rule that is broken: its number and its element are those of the repeat, and its offset the block's
   abbrev Repeats : Block → Type 0
-  Repeats b = (r : Rule Name) × (r .number ≡ repeatNumber before b) × (r .offset ≡ start) × (read (mayFollowRules start before (kept b) >>= g) at s ≡ no (breaks r))
+  Repeats b = (r : Rule Name) × (r .number ≡ repeatNumber before b) × (r .element ≡ repeatElement before b) × (r .offset ≡ start) × (read (mayFollowRules start before (kept b) >>= g) at s ≡ no (breaks r))
 
   pub read-may-not-follow : (b : Block) → isBlock b ≡ true → mayFollow before b ≡ false → Repeats b
   unfolding _>>=_ mayFollow
@@ -90,15 +90,15 @@ module _ {B : Type 0} (g : Unit {0} → Syntax Name B) (at : ℕ) (s : List Bool
     where
       one : (a : Bool) → spare 1 ≡ a → a && true ≡ false → Repeats (Level1 min max avg)
       one true q k = let z : _≡_ {A = ℕ} 0 1 = cc in clash z
-      one false q k = (surplusRule start before 1, rw q, refl, by-test g at s (surplusRule start before 1) false (room-met start before (Level1 min max avg) f ∙ q))
+      one false q k = (surplusRule start before 1, rw q, rw q, refl, by-test g at s (surplusRule start before 1) false (room-met start before (Level1 min max avg) f ∙ q))
   read-may-not-follow (Level2 t y o p c w m) f h = two (spare 2) (not (among t (targets before))) refl refl h
     where
       two : (a b : Bool) → spare 2 ≡ a → not (among t (targets before)) ≡ b → a && b ≡ false → Repeats (Level2 t y o p c w m)
       two true true q r k = let z : _≡_ {A = ℕ} 0 1 = cc in clash z
-      two true false q r k = (targetRule start before t, rw q, refl, both-rules t true false (room-met start before (Level2 t y o p c w m) f ∙ q) (target-met start before t ∙ r))
-      two false b q r k = (surplusRule start before 2, rw q, refl, both-rules t false b (room-met start before (Level2 t y o p c w m) f ∙ q) (target-met start before t ∙ r))
+      two true false q r k = (targetRule start before t, rw q, rw q, refl, both-rules t true false (room-met start before (Level2 t y o p c w m) f ∙ q) (target-met start before t ∙ r))
+      two false b q r k = (surplusRule start before 2, rw q, rw q, refl, both-rules t false b (room-met start before (Level2 t y o p c w m) f ∙ q) (target-met start before t ∙ r))
   read-may-not-follow (Level5 l r t b) f h = one (spare 5) refl h
     where
       one : (a : Bool) → spare 5 ≡ a → a && true ≡ false → Repeats (Level5 l r t b)
       one true q k = let z : _≡_ {A = ℕ} 0 1 = cc in clash z
-      one false q k = (surplusRule start before 5, rw q, refl, by-test g at s (surplusRule start before 5) false (room-met start before (Level5 l r t b) f ∙ q))
+      one false q k = (surplusRule start before 5, rw q, rw q, refl, by-test g at s (surplusRule start before 5) false (room-met start before (Level5 l r t b) f ∙ q))

@@ -1,5 +1,6 @@
 pub mod Data
 pub mod Element
+pub mod Told
 pub mod Wrapper
 pub mod Reason
 pub mod Largest

@@ -18,8 +18,8 @@ pub fn put_text(out: &mut [u8], at: usize, s: &[u8]) -> usize
 }
 
 // How many digits n has.
-fn digits_of(n: u32) -> usize
-    ensures { λ r. ⌜ (r ≡ length (decimal n)) × (r ≤ 10) ⌝ }
+fn digits_of(n: u64) -> usize
+    ensures { λ r. ⌜ (r ≡ length (decimal n)) × (r ≤ 20) ⌝ }
 {
     let mut rest = n;
     let mut k: usize = 1;
@@ -31,7 +31,7 @@ fn digits_of(n: u32) -> usize
 }
 
 // The digits of n, from the last to the first.
-pub fn put_decimal(out: &mut [u8], at: usize, n: u32) -> usize
+pub fn put_decimal(out: &mut [u8], at: usize, n: u64) -> usize
     requires { ⌜ RoomForText (now out) at (decimal n) ⌝ }
     ensures { λ r. ⌜ Typed (now (out .entry)) at (decimal n) (now (out .exit)) r ⌝ }
 {
@@ -47,7 +47,7 @@ pub fn put_decimal(out: &mut [u8], at: usize, n: u32) -> usize
 }
 
 // One line; the key has its equals sign.
-pub fn put_line(out: &mut [u8], at: usize, key: &[u8], n: u32) -> usize
+pub fn put_line(out: &mut [u8], at: usize, key: &[u8], n: u64) -> usize
     requires { ⌜ RoomForText (now out) at (entry (now key) (pos n)) ⌝ }
     ensures { λ r. ⌜ Typed (now (out .entry)) at (entry (now (key .entry)) (pos n)) (now (out .exit)) r ⌝ }
 {
@@ -61,9 +61,9 @@ pub fn put_two(
     out: &mut [u8],
     at: usize,
     key: &[u8],
-    n: u32,
+    n: u64,
     second_key: &[u8],
-    second: u32,
+    second: u64,
 ) -> usize
     requires { ⌜ RoomForText (now out) at (entry (now key) (pos n) ++ entry (now «second_key») (pos second)) ⌝ }
     ensures { λ r. ⌜ Typed (now (out .entry)) at (entry (now (key .entry)) (pos n) ++ entry (now («second_key» .entry)) (pos second)) (now (out .exit)) r ⌝ }
@@ -98,5 +98,5 @@ pub fn put_signed(out: &mut [u8], at: usize, key: &[u8], n: i16) -> usize
 {
     let p = put_text(out, at, key);
     let q = put_sign(out, p, n);
-    put_line(out, q, b"", magnitude(n))
+    put_line(out, q, b"", magnitude(n) as u64)
 }

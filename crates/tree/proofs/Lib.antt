@@ -19,3 +19,4 @@ pub mod Names
 pub mod Widths
 pub mod Stands
 pub mod Edges
+pub mod Held

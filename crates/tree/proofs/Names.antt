@@ -23,7 +23,7 @@ widened-no n (no g) f e = e
 
 module _ {N : Type 0} (P : N → Type 0) where
   -- a fault of an element has its name
-  coded-named : (d : Descriptor) (name : N) (at : ℕ) (s : List Bool) (f : Fault N) → P name → coded d name at s ≡ no f → P (elementIn f)
+  pub coded-named : (d : Descriptor) (name : N) (at : ℕ) (s : List Bool) (f : Fault N) → P name → coded d name at s ≡ no f → P (elementIn f)
   coded-named d name at s f h e = go (refused-coded d name at s f e)
     where
       go : ((f ≡ cutOff at name) × CutOff d s) ⊎ ((f ≡ overlong at name) × TooMany d s) → P (elementIn f)

@@ -95,14 +95,14 @@ module _ {N A : Type 0} (end : N) (p : Syntax N A) where
     a-refusal-stands f c e = go (rw e at (every-whole-answer-is-true end p s))
       where
         go : MeansWhole end p s (no f) → (g : Fault N) × (readWhole end p (s ++ t) ≡ no g) × ToldAlike f g
-        go (inl m) = (f, a-true-whole-answer-is-given end p (s ++ t) (no f) (inl (means-stands p 0 s t f c m)), record { number = refl; offset = refl; element = refl })
+        go (inl m) = (f, a-true-whole-answer-is-given end p (s ++ t) (no f) (inl (means-stands p 0 s t f c m)), record { number = refl; offset = refl; element = refl; whole = λ h. refl })
         go (inr m) =
             let es = m .1 in
             let u = m .2 in
             let n = sumOfWidths es in
             let l : 8 ≤ length (u ++ t) = omega (arith, left-over end n u (m .6), length-append u t) in
             let x : s ++ t ≡ allBits es ++ (u ++ t) = behind p 0 s t es u (m .4) in
-            (breaks (leftOver end n (u ++ t)), ap (readWhole end p) x ∙ anything-behind es (m .0) (u ++ t) (m .3) l, rw (m .5) (record { number = refl; offset = refl; element = refl }))
+            (breaks (leftOver end n (u ++ t)), ap (readWhole end p) x ∙ anything-behind es (m .0) (u ++ t) (m .3) l, rw (m .5) (record { number = refl; offset = refl; element = refl; whole = λ h. absurd (h refl) }))
 
     -- of an input that is accepted, what is a byte or more shorter is cut off
     pub a-beginning-is-cut-off : (a : A) (n : ℕ) → readWhole end p (s ++ t) ≡ ok a n → 8 ≤ length t → (offset : ℕ) × (name : N) × (readWhole end p s ≡ no (cutOff offset name))
@@ -127,7 +127,7 @@ module _ {N A : Type 0} (name end : N) (w : List ℕ) (hw : Bytes w) (p : Syntax
   a-wrapped-refusal-stands f c e = go (refused-behind-the-wrapper name w end p s f e)
     where
       go : Means (wrapperTable name w) 0 s (no f) ⊎ ((u : List Bool) × (s ≡ bitsOf w ++ u) × (readWhole end p u ≡ no f)) → (g : Fault N) × (readBehind name w end p (s ++ t) ≡ no g) × ToldAlike f g
-      go (inl m) = (f, behind-the-wrapper-refused name w end p hw (s ++ t) f (inl (means-stands (wrapperTable name w) 0 s t f c m)), record { number = refl; offset = refl; element = refl })
+      go (inl m) = (f, behind-the-wrapper-refused name w end p hw (s ++ t) f (inl (means-stands (wrapperTable name w) 0 s t f c m)), record { number = refl; offset = refl; element = refl; whole = λ h. refl })
       go (inr m) =
           let k = a-refusal-stands end p (m .0) t f c (m .2) in
           (k .0, behind-the-wrapper-refused name w end p hw (s ++ t) (k .0) (inr (m .0 ++ t, ap (λ (l : List Bool). l ++ t) (m .1) ∙ append-assoc (bitsOf w) (m .0) t, k .1)), k .2)

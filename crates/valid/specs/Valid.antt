@@ -10,6 +10,7 @@ use Rattle.tree.specs.Bits.{bit}
 use Rattle.record.specs.declared.Block.{Block}
 use Rattle.record.specs.declared.Block.the-variants.{Nothing, Level1, Level2, Level5}
 use Rattle.record.specs.declared.Record.{Record}
+use Rattle.record.specs.Name.{Name, «ext_block_level», «target_max_PQ»}
 use Rattle.record.specs.Level.{level, levelOf}
 use Rattle.record.specs.Blocks.{mostBlocks, blocks, beyond, inRange, inOrder}
 
@@ -87,6 +88,10 @@ mayFollow before b = notTooMany before b && newTarget before b
 -- 02, e: of one that may not, which repeat it is: one too many of its level, or else a target_max_PQ already met
 abbrev pub repeatNumber : List Block → Block → ℕ
 repeatNumber before b = cond (notTooMany before b) repeatedTarget (level (levelOf b) .surplus)
+
+-- 02, f: and which element it is about
+abbrev pub repeatElement : List Block → Block → Name
+repeatElement before b = cond (notTooMany before b) «target_max_PQ» «ext_block_level»
 
 -- a block that meets the clauses for one block
 abbrev pub validBlock : Block → Bool

@@ -28,8 +28,11 @@ use Rattle.output.specs.declared.Written.{Written}
 use Rattle.output.specs.Output.{written, fits, writtenAs, bufferAs}
 use Rattle.record.specs.Name.{Name, «wrapper»}
 use Rattle.syntax.specs.Data.{bareData}
-use Rattle.syntax.specs.Wrapper.{wrapperBytes, wrappedData, toldAt}
+use Rattle.syntax.specs.Wrapper.{wrapperBytes, wrappedData, inWrapper, toldAt}
 use Rattle.syntax.proofs.Named.{marked-in-the-wrapper}
+use Rattle.element.specs.declared.Element.the-variants.{Wrapper as Title}
+use Rattle.cause.specs.declared.Cause.{Cause}
+use Rattle.cause.specs.Cause.{untold, range, causeOf}
 use Rattle.reader.specs.Reading.{readingOf, refusedReading}
 use Rattle.wrapper.specs.declared.Wrapper.the-variants.{There, Refused}
 use Rattle.wrapper.specs.Wrapper.{beginsWith, wrapperOf, withoutRoom}
@@ -56,17 +59,17 @@ module _ (s : List ℕ) (i : ℕ) (h : i < 8) where
   in-bytes : 8 * i / 8 ≡ i
   in-bytes = omega arith
 
-  pub missing : length s ≤ i → Refused pastEnd i ≡ wrapperOf (fromByte s i)
+  pub missing : length s ≤ i → Refused pastEnd i (untold Title) ≡ wrapperOf (fromByte s i)
   missing l =
       let e : fromByte s i ≡ no (cutOff (8 * i) «wrapper») = rw (expected, drop-of-length-le s l) (wrapper-end «wrapper» byte (drop (suc i) wrapperBytes) (8 * i)) in
-      sym (ap wrapperOf e ∙ ap (Refused pastEnd) in-bytes)
+      sym (ap wrapperOf e ∙ ap (λ (k : ℕ). Refused pastEnd k (untold Title)) in-bytes)
 
   module _ (l : i < length s) (b : getD s i 0 < 256) where
     compared : fromByte s i ≡ cond (eqb (getD s i 0) byte) (widened 8 (read (wrapperTable «wrapper» (drop (suc i) wrapperBytes)) (8 * i + 8) (bitsOf (drop (suc i) s)))) (no (breaks (rangeRule «wrapper» wrapperDiffers (pos byte) (pos byte) (8 * i) (pos (getD s i 0)))))
     compared = rw (expected, drop-cons s i 0 l) (wrapper-byte «wrapper» byte (drop (suc i) wrapperBytes) (8 * i) (getD s i 0) (drop (suc i) s) b)
 
-    pub differs : (getD s i 0 ≡ byte → ⊥) → Refused wrapperDiffers i ≡ wrapperOf (fromByte s i)
-    differs e = sym (ap wrapperOf compared ∙ rw (ne-eqb (getD s i 0) byte e) (ap (Refused wrapperDiffers) in-bytes))
+    pub differs : (getD s i 0 ≡ byte → ⊥) → Refused wrapperDiffers i (range Title (getD s i 0) byte byte) ≡ wrapperOf (fromByte s i)
+    differs e = sym (ap wrapperOf compared ∙ rw (ne-eqb (getD s i 0) byte e) (ap (λ (k : ℕ). Refused wrapperDiffers k (range Title (getD s i 0) byte byte)) in-bytes))
 
     pub agrees : getD s i 0 ≡ byte → wrapperOf (fromByte s i) ≡ wrapperOf (fromByte s (i + 1))
     agrees e =
@@ -82,17 +85,18 @@ pub is-there : (o : Out Name (Unit {0})) → There ≡ wrapperOf o → (n : ℕ)
 is-there (ok t n) e = (n, refl)
 is-there (no f) e = let z : _≡_ {A = ℕ} 0 1 = cc in clash z
 
-is-refused : (o : Out Name (Unit {0})) (k at : ℕ) → Refused k at ≡ wrapperOf o → (f : Fault Name) × (o ≡ no f) × (k ≡ numberIn f) × (at ≡ toldAt f)
-is-refused (ok t n) k at e = let z : _≡_ {A = ℕ} 0 1 = cc in clash z
-is-refused (no f) k at e = (f, refl, cc, cc)
+is-refused : (o : Out Name (Unit {0})) (k at : ℕ) (c : Cause) → Refused k at c ≡ wrapperOf o → (f : Fault Name) × (o ≡ no f) × (k ≡ numberIn f) × (at ≡ toldAt f) × (c ≡ causeOf f)
+is-refused (ok t n) k at c e = let z : _≡_ {A = ℕ} 0 1 = cc in clash z
+is-refused (no f) k at c e = (f, refl, cc, cc, cc)
 
 -- a refusal of the wrapper is one of the whole
-pub wrapped-no : (s : List Bool) (k at : ℕ) → Refused k at ≡ wrapperOf (read (wrapperTable «wrapper» wrapperBytes) 0 s) → refusedReading k at true ≡ readingOf (wrappedData s)
-wrapped-no s k at e = go (is-refused (read (wrapperTable «wrapper» wrapperBytes) 0 s) k at e)
+pub wrapped-no : (s : List Bool) (k at : ℕ) (c : Cause) → Refused k at c ≡ wrapperOf (read (wrapperTable «wrapper» wrapperBytes) 0 s) → refusedReading k at true c ≡ readingOf (wrappedData s)
+wrapped-no s k at c e = go (is-refused (read (wrapperTable «wrapper» wrapperBytes) 0 s) k at c e)
   where
-    go : (f : Fault Name) × (read (wrapperTable «wrapper» wrapperBytes) 0 s ≡ no f) × (k ≡ numberIn f) × (at ≡ toldAt f) → refusedReading k at true ≡ readingOf (wrappedData s)
-    go (f, q, v, w) =
-        ap (λ (n : ℕ). refusedReading n at true) v ∙ ap (λ (n : ℕ). refusedReading (numberIn f) n true) w ∙ ap (refusedReading (numberIn f) (toldAt f)) (sym (marked-in-the-wrapper s f q)) ∙ sym (rw q refl)
+    go : (f : Fault Name) × (read (wrapperTable «wrapper» wrapperBytes) 0 s ≡ no f) × (k ≡ numberIn f) × (at ≡ toldAt f) × (c ≡ causeOf f) → refusedReading k at true c ≡ readingOf (wrappedData s)
+    go (f, q, v, w, x) =
+        ap (λ (n : ℕ). refusedReading n at true c) v ∙ ap (λ (n : ℕ). refusedReading (numberIn f) n true c) w ∙ ap (λ (b : Bool). refusedReading (numberIn f) (toldAt f) b c) (sym (marked-in-the-wrapper s f q))
+        ∙ ap (refusedReading (numberIn f) (toldAt f) (inWrapper f)) x ∙ sym (rw q refl)
 
 -- the wrapper's bytes have eight bits each
 wrapper-width : (ws : List ℕ) (at : ℕ) (es : List (Element Name)) → Follow (wrapperTable «wrapper» ws) at es (complete tt) → sumOfWidths es ≡ 8 * length ws
@@ -143,8 +147,8 @@ module _ (s : List ℕ) (h : Bytes s) where
   pub begins-there : There ≡ wrapperOf (read (wrapperTable «wrapper» wrapperBytes) 0 (bitsOf s)) → true ≡ beginsWith wrapperBytes s
   begins-there e = sym (ap isMet (is-there (read (wrapperTable «wrapper» wrapperBytes) 0 (bitsOf s)) e .1)) ∙ met-begins wrapperBytes 0 s h
 
-  pub begins-not : (k at : ℕ) → Refused k at ≡ wrapperOf (read (wrapperTable «wrapper» wrapperBytes) 0 (bitsOf s)) → false ≡ beginsWith wrapperBytes s
-  begins-not k at e = sym (ap isMet (is-refused (read (wrapperTable «wrapper» wrapperBytes) 0 (bitsOf s)) k at e .1)) ∙ met-begins wrapperBytes 0 s h
+  pub begins-not : (k at : ℕ) (c : Cause) → Refused k at c ≡ wrapperOf (read (wrapperTable «wrapper» wrapperBytes) 0 (bitsOf s)) → false ≡ beginsWith wrapperBytes s
+  begins-not k at c e = sym (ap isMet (is-refused (read (wrapperTable «wrapper» wrapperBytes) 0 (bitsOf s)) k at c e .1)) ∙ met-begins wrapperBytes 0 s h
 
 -- fewer bytes do not begin with these
 pub too-short : (ws s : List ℕ) → length s < length ws → false ≡ beginsWith ws s

@@ -12,6 +12,7 @@ use Rattle.record.specs.declared.Record.{Record}
 use Rattle.record.specs.Name.{Name}
 use Rattle.valid.specs.Valid.{valid}
 use Rattle.syntax.specs.Wrapper.{wrappedData, toldAt, wrappedPayload}
+use Rattle.cause.specs.Cause.{causeOf}
 use Rattle.reader.specs.declared.Reading.{Reading}
 use Rattle.reader.specs.Reading.{readingOf}
 use Rattle.wrapper.specs.declared.Wrapper.{Wrapper}
@@ -37,7 +38,7 @@ wrappedBuffer r out = bufferAs (wrappedPayload r) (valid r) out
 -- the wrapper's bytes are there, or why not, told by the byte's offset
 abbrev pub wrapperOf : Out Name (Unit {0}) → Wrapper
 wrapperOf (ok t n) = There
-wrapperOf (no f) = Refused (numberIn f) (toldAt f)
+wrapperOf (no f) = Refused (numberIn f) (toldAt f) (causeOf f)
 
 -- what a write answers where not even the wrapper has room
 abbrev pub withoutRoom : Bool → Written

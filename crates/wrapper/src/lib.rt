@@ -1,4 +1,6 @@
 // ST2094-10_data in its ITU-T T.35 wrapper.
+use cause::Cause;
+use element::Element;
 use output::Written;
 use reader::Reading;
 use record::Record;
@@ -23,7 +25,11 @@ pub const WRAPPER_BYTES: usize = 8;
 // Whether the wrapper's bytes are there, or why not.
 enum Wrapper {
     There,
-    Refused { number: u8, offset: u32 },
+    Refused {
+        number: u8,
+        offset: u32,
+        cause: Cause,
+    },
 }
 
 // The wrapper's bytes: country, provider, user identifier, type code.
@@ -53,12 +59,16 @@ fn check_wrapper(input: &[u8]) -> Wrapper
             return Wrapper::Refused {
                 number: refusals::PAST_END,
                 offset: i as u32,
+                cause: cause::untold(Element::Wrapper),
             };
         }
-        if input[i] != wrapper_byte(i) {
+        let due = wrapper_byte(i);
+        let byte = input[i];
+        if byte != due {
             return Wrapper::Refused {
                 number: refusals::WRAPPER_DIFFERS,
                 offset: i as u32,
+                cause: cause::range(Element::Wrapper, byte as u64, due as u16, due as u16),
             };
         }
         i += 1;
@@ -77,8 +87,8 @@ pub fn has_wrapper(input: &[u8]) -> bool
 }
 
 // 01, The record: beside a refusal the record is empty. 02, e: a fault in the wrapper is marked.
-fn refused(number: u8, offset: u32) -> Reading
-    ensures { λ r. ⌜ r ≡ refusedReading number offset true ⌝ }
+fn refused(number: u8, offset: u32, cause: Cause) -> Reading
+    ensures { λ r. ⌜ r ≡ refusedReading number offset true cause ⌝ }
 {
     let record = Record::empty();
     Reading {
@@ -87,6 +97,7 @@ fn refused(number: u8, offset: u32) -> Reading
         in_wrapper: true,
         bits: 0,
         offset,
+        cause,
         record,
     }
 }
@@ -96,7 +107,11 @@ pub fn read_wrapped(input: &[u8]) -> Reading
     ensures { λ r. ⌜ r ≡ readWrapped (now (input .entry)) ⌝ }
 {
     match check_wrapper(input) {
-        Wrapper::Refused { number, offset } => refused(number, offset),
+        Wrapper::Refused {
+            number,
+            offset,
+            cause,
+        } => refused(number, offset, cause),
         Wrapper::There => reader::read_data(&input[8..]),
     }
 }

@@ -7,12 +7,12 @@ use Rattle.tree.specs.Reading.{ok}
 use Rattle.tree.specs.Syntax.{zeroBits, read}
 use Rattle.bits.specs.declared.Number.the-variants.{Is, Refused}
 use Rattle.bits.specs.Answer.{nameless, spanOf}
-use Rattle.bits.proofs.Reading.{spans-ok, spans-no, named-zeros}
+use Rattle.bits.proofs.Reading.{spans-ok, named-zeros, refused-zeros}
 use Rattle.record.specs.Name.{«ext_dm_alignment_zero_bit»}
 use Rattle.record.specs.Level.{padding}
 use Rattle.syntax.specs.Data.{kept}
 use Rattle.block.specs.Parts.{afterFields}
-use Rattle.block.proofs.Laws.{first-no, ordered, in-order, out-of-order, read-closing}
+use Rattle.block.proofs.Laws.{first-told, ordered, in-order, out-of-order, read-closing}
 use borrow.Author.Needs.{needs}
 use Rattle.block.proofs.after_fields.Statement.{statement}
 use Rattle.block.proofs.after_fields.Tie as tie
@@ -61,8 +61,8 @@ returns c =
     let e : Refused k w ≡ spanOf (read (zeroBits nameless (padding (a .level))) (a .at) l) =
     sym (c .before .number .given .1) ∙ z .read-zeros .ensures ∙ ap (λ (k : ℕ). spanOf (read (zeroBits nameless k) (a .at) l)) (z .before .padding-of .ensures) in
     let o = read (zeroBits «ext_dm_alignment_zero_bit» (padding (a .level))) (a .at) l in
-    first-no (afterFields (a .start) (a .level) (a .block)) o (λ z. ordered (a .start) (kept (a .block))) (a .at) B (read-closing (a .start) (a .level) (a .block) (a .at) l) k w
-    (spans-no o k w (e ∙ named-zeros «ext_dm_alignment_zero_bit» (padding (a .level)) (a .at) l))
+    first-told (afterFields (a .start) (a .level) (a .block)) o (λ z. ordered (a .start) (kept (a .block))) (a .at) B (read-closing (a .start) (a .level) (a .block) (a .at) l) k «ext_dm_alignment_zero_bit» w
+    (refused-zeros «ext_dm_alignment_zero_bit» (a .at) l k w (padding (a .level)) e)
 
 returns-2 : tie.Need-returns-2
 returns-2 c =

@@ -10,10 +10,10 @@ use Rattle.tree.proofs.Bits.{length-rest}
 use Rattle.tree.proofs.Elements.{u-took}
 use Rattle.bits.specs.declared.Number.the-variants.{Is, Refused}
 use Rattle.bits.specs.Answer.{nameless, numberOf}
-use Rattle.bits.proofs.Reading.{is-ok, is-no, named-u}
+use Rattle.bits.proofs.Reading.{is-ok, named-u, refused-u}
 use Rattle.record.specs.Name.{«ext_block_level»}
 use Rattle.block.specs.Parts.{body, afterLength, partBehind, partTook}
-use Rattle.block.proofs.Laws.{contentBits, first-no, took-few, second-on, read-level, takes-body}
+use Rattle.block.proofs.Laws.{contentBits, first-told, took-few, second-on, read-level, takes-body}
 use borrow.Author.Needs.{needs}
 use Rattle.block.proofs.after_length.Statement.{statement}
 use Rattle.block.proofs.after_length.Tie as tie
@@ -68,7 +68,7 @@ returns c =
     let w = c .before .number .given .0 .1 .0 in
     let q : Refused k w ≡ numberOf (u nameless 8 (a .at) l) = sym (c .before .number .given .1) ∙ c .before .before .before .read-u .ensures in
     let o = u «ext_block_level» 8 (a .at) l in
-    first-no (afterLength (a .start) (pos (a .size))) o (λ v. body (a .start) (pos (a .size)) (pos v)) (a .at) B (read-level (a .start) (pos (a .size)) (a .at) l) k w (is-no o k w (q ∙ named-u «ext_block_level» (a .at) l 8))
+    first-told (afterLength (a .start) (pos (a .size))) o (λ v. body (a .start) (pos (a .size)) (pos v)) (a .at) B (read-level (a .start) (pos (a .size)) (a .at) l) k «ext_block_level» w (refused-u «ext_block_level» (a .at) l k w 8 q)
 
 returns-2 : tie.Need-returns-2
 returns-2 c =

@@ -12,8 +12,8 @@ enum-known-rest c = search needs
 enum-known-rest-2 : tie.Need-enum-known-rest-2
 enum-known-rest-2 c = search needs
 
-add-t9 : tie.Need-add-t9
-add-t9 c =
+add-t10 : tie.Need-add-t10
+add-t10 c =
     let s = c .before .before .before in
     let g = c .before .rest2 .given .0 in
     let e : s .args .rest ≡ Passed (g .0) = cc in
@@ -23,8 +23,8 @@ add-t9 c =
 enum-known-rest-3 : tie.Need-enum-known-rest-3
 enum-known-rest-3 c = search needs
 
-add-t10 : tie.Need-add-t10
-add-t10 c =
+add-t11 : tie.Need-add-t11
+add-t11 c =
     let s = c .before .before .before in
     let g = c .before .rest3 .given .0 in
     let e : s .args .rest ≡ Kept (g .0) (g .1 .0) = cc in
@@ -34,7 +34,7 @@ add-t10 c =
 returns : tie.Need-returns
 returns c =
     let s = c .before .before .before in
-    let e : s .args .rest ≡ Refused (c .before .rest .given .0 .0) (c .before .rest .given .0 .1 .0) = cc in
+    let e : s .args .rest ≡ Refused (c .before .rest .given .0 .0) (c .before .rest .given .0 .1 .0) (c .before .rest .given .0 .1 .1 .0) = cc in
     rw e
 
 returns-2 : tie.Need-returns-2
@@ -56,9 +56,9 @@ behind-spec =
     (tie.spec
     enum-known-rest
     enum-known-rest-2
-    add-t9
-    enum-known-rest-3
     add-t10
+    enum-known-rest-3
+    add-t11
     returns
     returns-2
     returns-3)

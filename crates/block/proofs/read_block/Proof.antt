@@ -9,11 +9,11 @@ use Rattle.tree.specs.Reading.{ok, ue}
 use Rattle.tree.specs.Coding.{mostZeros}
 use Rattle.bits.specs.declared.Number.the-variants.{Is, Refused}
 use Rattle.bits.specs.Answer.{nameless, numberOf}
-use Rattle.bits.proofs.Reading.{is-ok, is-no, named-ue}
+use Rattle.bits.proofs.Reading.{is-ok, named-ue, refused-ue}
 use Rattle.record.specs.Name.{«ext_block_length»}
 use Rattle.syntax.specs.Data.{block}
 use Rattle.block.specs.Parts.{afterLength, partBehind, partTook}
-use Rattle.block.proofs.Laws.{contentBits, first-no, took-few, second-on, read-length, takes-length, takes-after-length}
+use Rattle.block.proofs.Laws.{contentBits, first-told, took-few, second-on, read-length, takes-length, takes-after-length}
 use borrow.Author.Needs.{needs}
 use Rattle.block.proofs.read_block.Statement.{statement}
 use Rattle.block.proofs.read_block.Tie as tie
@@ -64,7 +64,7 @@ returns c =
     let w = c .before .number .given .0 .1 .0 in
     let q : Refused k w ≡ numberOf (ue nameless mostZeros (a .at) l) = sym (c .before .number .given .1) ∙ c .before .before .before .read-ue .ensures in
     let o = ue «ext_block_length» mostZeros (a .at) l in
-    first-no block o (λ v. afterLength (a .at) (pos v)) (a .at) B (read-length (a .at) l) k w (is-no o k w (q ∙ named-ue «ext_block_length» (a .at) l mostZeros))
+    first-told block o (λ v. afterLength (a .at) (pos v)) (a .at) B (read-length (a .at) l) k «ext_block_length» w (refused-ue «ext_block_length» (a .at) l k w q)
 
 returns-2 : tie.Need-returns-2
 returns-2 c =

@@ -61,8 +61,9 @@ returns c =
     let B = bitsOf (s .args .s .now) in
     let l = drop (s .args .at) B in
     let k = c .before .number .given .0 .0 in
-    let w = c .before .number .given .0 .1 .0 in
-    first-no (contentFrom (s .args .start) (s .args .level)) (fieldsRead s) (afterFields (s .args .start) (s .args .level)) (s .args .at) B (read-fields (s .args .start) (s .args .level) (s .args .at) l) k w (step-no (fieldsRead s) k w (sym (c .before .number .given .1) ∙ c .before .before .before .fields-of .ensures))
+    let x = c .before .number .given .0 .1 .0 in
+    let w = c .before .number .given .0 .1 .1 .0 in
+    first-no (contentFrom (s .args .start) (s .args .level)) (fieldsRead s) (afterFields (s .args .start) (s .args .level)) (s .args .at) B (read-fields (s .args .start) (s .args .level) (s .args .at) l) k x w (step-no (fieldsRead s) k x w (sym (c .before .number .given .1) ∙ c .before .before .before .fields-of .ensures))
 
 returns-2 : tie.Need-returns-2
 unfolding fieldsRead

@@ -13,8 +13,8 @@ enum-known-rest c = search needs
 enum-known-rest-2 : tie.Need-enum-known-rest-2
 enum-known-rest-2 c = search needs
 
-add-t9 : tie.Need-add-t9
-add-t9 c =
+add-t10 : tie.Need-add-t10
+add-t10 c =
     let s = c .before .before .before in
     let g = c .before .rest2 .given .0 in
     let e : s .args .rest ≡ Is (g .0) (g .1 .0) (g .1 .1 .0) = cc in
@@ -24,7 +24,7 @@ add-t9 c =
 returns : tie.Need-returns
 returns c =
     let s = c .before .before .before in
-    let e : s .args .rest ≡ Refused (c .before .rest .given .0 .0) (c .before .rest .given .0 .1 .0) = cc in
+    let e : s .args .rest ≡ Refused (c .before .rest .given .0 .0) (c .before .rest .given .0 .1 .0) (c .before .rest .given .0 .1 .1 .0) = cc in
     rw e
 
 returns-2 : tie.Need-returns-2
@@ -35,4 +35,4 @@ returns-2 c =
     rw e
 
 pub behind-spec : {M : Type 1} → statement M
-behind-spec = tie.close (tie.spec enum-known-rest enum-known-rest-2 add-t9 returns returns-2)
+behind-spec = tie.close (tie.spec enum-known-rest enum-known-rest-2 add-t10 returns returns-2)

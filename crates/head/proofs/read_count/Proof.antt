@@ -17,8 +17,8 @@ enum-known-number c = search needs
 enum-known-n : tie.Need-enum-known-n
 enum-known-n c = search needs
 
-cast-t11 : tie.Need-cast-t11
-cast-t11 c = search needs
+cast-t12 : tie.Need-cast-t12
+cast-t12 c = search needs
 
 refuse-requires : tie.Need-refuse-requires
 refuse-requires c κs = search needs
@@ -47,7 +47,7 @@ read-count-spec =
     read-ue-requires
     enum-known-number
     enum-known-n
-    cast-t11
+    cast-t12
     refuse-requires
     returns
     returns-2

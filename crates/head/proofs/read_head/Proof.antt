@@ -31,7 +31,7 @@ read-padding-requires c κs =
     omega (arith, head-short (bitsOf (c .before .before .before .before .before .args .s .now)) (announced (r .0 .0) (r .0 .1 .0)) (r .0 .1 .1 .0) (first c))
 
 returns : tie.Need-returns
-returns c = head-no (bitsOf (c .before .before .before .before .before .args .s .now)) (c .before .number .given .0 .0) (c .before .number .given .0 .1 .0) (sym (c .before .number .given .1) ∙ c .before .before .before .read-identifier .ensures)
+returns c = head-no (bitsOf (c .before .before .before .before .before .args .s .now)) (c .before .number .given .0 .0) (c .before .number .given .0 .1 .0) (c .before .number .given .0 .1 .1 .0) (sym (c .before .number .given .1) ∙ c .before .before .before .read-identifier .ensures)
 
 returns-2 : tie.Need-returns-2
 returns-2 c =

@@ -33,8 +33,8 @@ gap : (c : tie.After-zeros-behind) → spanOf (read (zeroBits nameless (c .zeros
     ≡ spanOf (read (zeroBits nameless (cond (not (eqb (c .before .before .args .count) 0)) (toBoundary (c .before .before .args .n)) 0)) (c .before .before .args .n) (drop (c .before .before .args .n) (bitsOf (c .before .before .args .s .now))))
 gap c = let a = c .before .before .args in ap (λ (k : ℕ). spanOf (read (zeroBits nameless k) (a .n) (drop (a .n) (bitsOf (a .s .now))))) (c .zeros-behind .ensures .0)
 
-add-t12 : tie.Need-add-t12
-add-t12 c =
+add-t13 : tie.Need-add-t13
+add-t13 c =
     let a = c .before .before .before .before .before .before .args in
     let g = c .before .width .given in
     omega (arith, aligned-took (announced (a .refresh) (a .count)) (a .n) (drop (a .n) (bitsOf (a .s .now))) (g .0 .0) (g .0 .1 .0) (sym (g .1) ∙ c .before .before .before .read-zeros .ensures ∙ gap (c .before .before .before .before)), c .before .before .before .before .zeros-behind .ensures)
@@ -58,6 +58,6 @@ read-padding-spec =
     read-zeros-requires
     enum-known-number
     enum-known-width
-    add-t12
+    add-t13
     returns
     returns-2)

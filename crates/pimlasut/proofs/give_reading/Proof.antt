@@ -23,14 +23,14 @@ cast-result c = search needs
 
 -- the record that was read has its 18 places
 long : (c : tie.Start) → length (c .args .reading .«record» .places) ≡ mostBlocks
-long c = sym (length-map (c .args .reading .«record» .places) _) ∙ c .good .0 .1 .1 .1 .1 .1 .1 .1 .0 .1 .1 .1 .1 .0 .1 .0 .1
+long c = sym (length-map (c .args .reading .«record» .places) _) ∙ c .good .0 .1 .1 .1 .1 .1 .1 .1 .1 .0 .1 .1 .1 .1 .0 .1 .0 .1
 
 same-length : tie.Need-same-length
 same-length c = search needs
 
 returns : tie.Need-returns
 returns c =
-    let a = c .before .before .before .before .before .before .before .before .before .before .args in
+    let a = c .before .before .before .before .before .before .before .before .before .before .before .args in
     (refl, (kept (a .reading .result) (flat (a .reading .«record»)) (a .numbers .now) (c .before .if1 .taken), rw (c .before .before .before .before .before .before .before .mark .ensures) at (c .before .before .before .before .before .put-facts .ensures)))
 
 put-record-requires : tie.Need-put-record-requires
@@ -44,7 +44,7 @@ same-length-3 c = search needs
 
 returns-2 : tie.Need-returns-2
 returns-2 c =
-    let s = c .before .before .before .before .before .before .before .before .before .before .before .before .before in
+    let s = c .before .before .before .before .before .before .before .before .before .before .before .before .before .before in
     let r = s .args .reading .«record» in
     (sym (c .before .before .before .before .if1 .left), (c .before .put-record .ensures ∙ pasted-whole (s .args .numbers .now) (flat r) flatLength (s .pre .0) (length-flat r (long s)), rw (c .before .before .before .before .before .before .before .before .before .before .mark .ensures) at (c .before .before .before .before .before .before .before .before .put-facts .ensures)))
 

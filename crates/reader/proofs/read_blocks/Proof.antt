@@ -6,14 +6,13 @@ use native.Mathlib.Omega.{arith}
 use lib.ListN.{drop, set}
 use Rattle.tree.specs.Bits.{bitsOf}
 use Rattle.tree.specs.Reading.{ok}
-use Rattle.bits.proofs.Reading.{is-ok, is-no}
 use Rattle.record.specs.Blocks.{mostBlocks}
 use Rattle.valid.specs.Valid.{targets, withBlock}
 use Rattle.met.specs.Met.{mostTargets}
 use Rattle.syntax.specs.Data.{mostAnnounced, announced}
 use Rattle.head.proofs.Laws.{opening-few}
 use Rattle.reader.specs.Reading.{summary, endFrom}
-use Rattle.reader.proofs.Laws.{Reached, reached-none, reached-few, reached-counted, reached-all, reached-no, reached-past, reached-range, reached-repeated, reached-room, reached-more, blocksFrom, by-told, no-blocks, no-end, at-the-end}
+use Rattle.reader.proofs.Laws.{Reached, reached-none, reached-few, reached-counted, reached-all, reached-no, reached-past, reached-range, reached-repeated, reached-room, reached-more, blocksFrom, told-on, end-told, end-there, no-blocks, no-end, at-the-end}
 use borrow.Author.Needs.{needs}
 use Rattle.reader.proofs.read_blocks.Statement.{statement}
 use Rattle.reader.proofs.read_blocks.Tie as tie
@@ -52,16 +51,18 @@ enum-known-number : tie.Need-enum-known-number Inv-loop μ-loop
 enum-known-number c = search needs
 
 refused-requires : tie.Need-refused-requires Inv-loop μ-loop
-refused-requires c κs = search needs
-
-returns : tie.Need-returns Inv-loop μ-loop
-returns c =
-    let at = c .before .before .before .before .before .before in
+refused-requires c κs =
+    let at = c .before .before .before .before .before in
     let s = at .before .before .before .before in
     let a = s .args in
     let l = at .loop in
-    let f = reached-no (a .refresh) (bitsOf (a .s .now)) (a .start) (a .n) (l .r) (l .seen) (l .targets) (l .width) (l .skipped) (l .i) (l .inv) (omega arith) (c .before .before .number .given .0 .0) (c .before .before .number .given .0 .1 .0) (sym (c .before .before .number .given .1) ∙ c .before .before .before .before .read-block .ensures) in
-    c .refused .ensures ∙ by-told (bitsOf (a .s .now)) (c .before .before .number .given .0 .0) (c .before .before .number .given .0 .1 .0) (f .0) (f .2) (f .3) (no-blocks (bitsOf (a .s .now)) (announced (a .refresh) (a .n)) (a .start) (s .pre) (f .0) (f .1))
+    let g = c .before .number .given in
+    told-on (bitsOf (a .s .now)) (blocksFrom (announced (a .refresh) (a .n)) (a .start) (drop (a .start) (bitsOf (a .s .now)))) (g .0 .0) (g .0 .1 .0) (g .0 .1 .1 .0)
+    (reached-no (a .refresh) (bitsOf (a .s .now)) (a .start) (a .n) (l .r) (l .seen) (l .targets) (l .width) (l .skipped) (l .i) (l .inv) (omega arith) (g .0 .0) (g .0 .1 .0) (g .0 .1 .1 .0) (sym (g .1) ∙ c .before .before .before .read-block .ensures))
+    (no-blocks (bitsOf (a .s .now)) (announced (a .refresh) (a .n)) (a .start) (s .pre))
+
+returns : tie.Need-returns Inv-loop μ-loop
+returns c = search needs
 
 enum-known-w : tie.Need-enum-known-w Inv-loop μ-loop
 enum-known-w c = search needs
@@ -133,8 +134,8 @@ including-requires c κs = counted (c .before .before .before .before .before .b
 cast-j : tie.Need-cast-j Inv-loop μ-loop
 cast-j c = omega (arith, room (c .before .before .before))
 
-mul-t28 : tie.Need-mul-t28 Inv-loop μ-loop
-mul-t28 c = omega (arith, room (c .before .before .before))
+mul-t31 : tie.Need-mul-t31 Inv-loop μ-loop
+mul-t31 c = omega (arith, room (c .before .before .before))
 
 element-set-from-r : tie.Need-element-set-from-r Inv-loop μ-loop
 element-set-from-r c = room (c .before .before .before)
@@ -168,29 +169,33 @@ loop-again-2 c = again c
 repeat-of-requires : tie.Need-repeat-of-requires Inv-loop μ-loop
 repeat-of-requires c κs = search needs
 
+repeated-requires : tie.Need-repeated-requires Inv-loop μ-loop
+repeated-requires c κs = search needs
+
 add-refused : tie.Need-add-refused Inv-loop μ-loop
-add-refused c = let d = c .before .before .before .before .before .before .before .before .before in let x = d .loop .inv in omega (arith, few d, x .short, x .few)
+add-refused c = let d = c .before .before .before .before .before .before .before .before .before .before in let x = d .loop .inv in omega (arith, few d, x .short, x .few)
 
 cast-refused : tie.Need-cast-refused Inv-loop μ-loop
-cast-refused c = let d = c .before .before .before .before .before .before .before .before .before in let x = d .loop .inv in omega (arith, few d, x .short, x .few)
-
-refused-requires-2 : tie.Need-refused-requires-2 Inv-loop μ-loop
-refused-requires-2 c κs = search needs
+cast-refused c = let d = c .before .before .before .before .before .before .before .before .before .before in let x = d .loop .inv in omega (arith, few d, x .short, x .few)
 
 -- a block was still to be read
 inside : (c : tie.In-loop Inv-loop μ-loop) → c .before .loop .i < c .before .before .before .before .before .args .n
 inside c = omega arith
 
-returns-2 : tie.Need-returns-2 Inv-loop μ-loop
-returns-2 c =
+refused-requires-2 : tie.Need-refused-requires-2 Inv-loop μ-loop
+refused-requires-2 c κs =
     let at = c .before .before .before .before .before .before .before .before .before .before in
     let s = at .before .before .before .before in
     let a = s .args in
     let l = at .loop in
     let g = c .before .before .before .before .before .before .m .given in
     let d = c .before .before in
-    let f = reached-repeated (a .refresh) (bitsOf (a .s .now)) (a .start) (a .n) (l .r) (l .seen) (l .targets) (l .width) (l .skipped) (l .i) (l .inv) (inside (c .before .before .before .before .before .before .before .before .before)) (g .0 .1 .0) (g .0 .0) (sym (g .1) ∙ c .before .before .before .before .before .before .before .before .read-block .ensures) (d .before .admits .result) (d .before .admits .ensures) (d .if1 .left) (c .before .repeat-of .result) (c .before .repeat-of .ensures) in
-    c .refused2 .ensures ∙ by-told (bitsOf (a .s .now)) (c .before .repeat-of .result) (a .start + l .width) (f .0) (f .2) (f .3) (no-blocks (bitsOf (a .s .now)) (announced (a .refresh) (a .n)) (a .start) (s .pre) (f .0) (f .1))
+    told-on (bitsOf (a .s .now)) (blocksFrom (announced (a .refresh) (a .n)) (a .start) (drop (a .start) (bitsOf (a .s .now)))) (c .before .repeat-of .result) (c .repeated .result) (a .start + l .width)
+    (reached-repeated (a .refresh) (bitsOf (a .s .now)) (a .start) (a .n) (l .r) (l .seen) (l .targets) (l .width) (l .skipped) (l .i) (l .inv) (inside (c .before .before .before .before .before .before .before .before .before)) (g .0 .1 .0) (g .0 .0) (sym (g .1) ∙ c .before .before .before .before .before .before .before .before .read-block .ensures) (d .before .admits .result) (d .before .admits .ensures) (d .if1 .left) (c .before .repeat-of .result) (c .before .repeat-of .ensures) (c .repeated .result) (c .repeated .ensures))
+    (no-blocks (bitsOf (a .s .now)) (announced (a .refresh) (a .n)) (a .start) (s .pre))
+
+returns-2 : tie.Need-returns-2 Inv-loop μ-loop
+returns-2 c = search needs
 
 -- all blocks were read
 all : (c : tie.After-loop Inv-loop μ-loop) → blocksFrom (announced (c .before .before .before .before .before .args .refresh) (c .before .before .before .before .before .args .n)) (c .before .before .before .before .before .args .start) (drop (c .before .before .before .before .before .args .start) (bitsOf (c .before .before .before .before .before .args .s .now))) ≡ ok (summary (c .before .loop .r) (c .before .loop .skipped)) (c .before .loop .width)
@@ -209,31 +214,34 @@ enum-known-number-2 : tie.Need-enum-known-number-2 Inv-loop μ-loop
 enum-known-number-2 c = search needs
 
 refused-requires-3 : tie.Need-refused-requires-3 Inv-loop μ-loop
-refused-requires-3 c κs = search needs
-
-enum-known-bits : tie.Need-enum-known-bits Inv-loop μ-loop
-enum-known-bits c = search needs
-
-returns-3 : tie.Need-returns-3 Inv-loop μ-loop
-returns-3 c =
-    let d = c .before .before .before .before .before in
-    let s = d .before .before .before .before .before in
-    let a = s .args in
-    let l = d .before .loop in
-    let g = c .before .before .number2 .given in
-    let f = is-no (endFrom (a .start + l .width) (drop (a .start + l .width) (bitsOf (a .s .now)))) (g .0 .0) (g .0 .1 .0) (sym (g .1) ∙ c .before .before .before .before .read-end .ensures) in
-    c .refused3 .ensures
-    ∙ by-told (bitsOf (a .s .now)) (g .0 .0) (g .0 .1 .0) (f .0) (f .2) (f .3) (no-end (bitsOf (a .s .now)) (announced (a .refresh) (a .n)) (a .start) (s .pre) (summary (l .r) (l .skipped)) (l .width) (all d) (f .0) (f .1))
-
-returns-4 : tie.Need-returns-4 Inv-loop μ-loop
-returns-4 c =
+refused-requires-3 c κs =
     let d = c .before .before .before .before in
     let s = d .before .before .before .before .before in
     let a = s .args in
     let l = d .before .loop in
-    let g = c .before .bits .given in
-    let f = is-ok (endFrom (a .start + l .width) (drop (a .start + l .width) (bitsOf (a .s .now)))) (g .0 .0) (g .0 .1 .0) (sym (g .1) ∙ c .before .before .before .read-end .ensures) in
-    at-the-end (bitsOf (a .s .now)) (announced (a .refresh) (a .n)) (a .start) (s .pre) (summary (l .r) (l .skipped)) (l .width) (all d) (g .0 .0) (g .0 .1 .0) f
+    let g = c .before .number2 .given in
+    let o = endFrom (a .start + l .width) (drop (a .start + l .width) (bitsOf (a .s .now))) in
+    told-on (bitsOf (a .s .now)) o (g .0 .0) (g .0 .1 .0) (g .0 .1 .1 .0) (end-told o (g .0 .0) (g .0 .1 .0) (g .0 .1 .1 .0) (sym (g .1) ∙ c .before .before .before .read-end .ensures))
+    (no-end (bitsOf (a .s .now)) (announced (a .refresh) (a .n)) (a .start) (s .pre) (summary (l .r) (l .skipped)) (l .width) (all d))
+
+enum-known-bits : tie.Need-enum-known-bits Inv-loop μ-loop
+enum-known-bits c = search needs
+
+nothing-requires-2 : tie.Need-nothing-requires-2 Inv-loop μ-loop
+nothing-requires-2 c κs = search needs
+
+returns-3 : tie.Need-returns-3 Inv-loop μ-loop
+returns-3 c = search needs
+
+returns-4 : tie.Need-returns-4 Inv-loop μ-loop
+returns-4 c =
+    let d = c .before .before .before .before .before in
+    let s = d .before .before .before .before .before in
+    let a = s .args in
+    let l = d .before .loop in
+    let g = c .before .before .bits .given in
+    let f = end-there (endFrom (a .start + l .width) (drop (a .start + l .width) (bitsOf (a .s .now)))) (g .0 .0) (sym (g .1) ∙ c .before .before .before .before .read-end .ensures) in
+    rw (c .nothing2 .ensures) (at-the-end (bitsOf (a .s .now)) (announced (a .refresh) (a .n)) (a .start) (s .pre) (summary (l .r) (l .skipped)) (l .width) (all d) (g .0 .0) (f .0) (f .1))
 
 pub read-blocks-spec : {M : Type 1} → statement M
 read-blocks-spec =
@@ -263,7 +271,7 @@ read-blocks-spec =
     array-write-targets
     including-requires
     cast-j
-    mul-t28
+    mul-t31
     element-set-from-r
     add-r
     add-width-2
@@ -271,6 +279,7 @@ read-blocks-spec =
     loop-less-2
     loop-again-2
     repeat-of-requires
+    repeated-requires
     add-refused
     cast-refused
     refused-requires-2
@@ -280,5 +289,6 @@ read-blocks-spec =
     enum-known-number-2
     refused-requires-3
     enum-known-bits
+    nothing-requires-2
     returns-3
     returns-4)

@@ -4,7 +4,7 @@ use Rattle.tree.specs.Bits.{bitsOf}
 use Rattle.tree.specs.Syntax.{read}
 use Rattle.head.specs.Opening.{opening}
 use Rattle.head.proofs.Laws.{opening-ok, opening-no}
-use Rattle.reader.proofs.Laws.{by-told, no-head}
+use Rattle.reader.proofs.Laws.{told-on, no-head}
 use borrow.Author.Needs.{needs}
 use Rattle.reader.proofs.read_data.Statement.{statement}
 use Rattle.reader.proofs.read_data.Tie as tie
@@ -16,7 +16,10 @@ enum-known-number : tie.Need-enum-known-number
 enum-known-number c = search needs
 
 refused-requires : tie.Need-refused-requires
-refused-requires c κs = search needs
+refused-requires c κs =
+    let s = bitsOf (c .before .before .before .before .before .args .input .now) in
+    let g = c .before .number .given in
+    told-on s (read opening 0 s) (g .0 .0) (g .0 .1 .0) (g .0 .1 .1 .0) (opening-no (read opening 0 s) (g .0 .0) (g .0 .1 .0) (g .0 .1 .1 .0) (sym (g .1) ∙ c .before .before .before .read-head .ensures)) (no-head s)
 
 enum-known-refresh : tie.Need-enum-known-refresh
 enum-known-refresh c = search needs
@@ -27,11 +30,7 @@ read-blocks-requires c κs =
     opening-ok (read opening 0 (bitsOf (c .before .before .before .before .before .args .input .now))) (g .0 .0) (g .0 .1 .0) (g .0 .1 .1 .0) (sym (g .1) ∙ c .before .before .before .read-head .ensures)
 
 returns : tie.Need-returns
-returns c =
-    let s = bitsOf (c .before .before .before .before .before .before .args .input .now) in
-    let g = c .before .before .number .given in
-    let f = opening-no (read opening 0 s) (g .0 .0) (g .0 .1 .0) (sym (g .1) ∙ c .before .before .before .before .read-head .ensures) in
-    c .refused .ensures ∙ by-told s (g .0 .0) (g .0 .1 .0) (f .0) (f .2) (f .3) (no-head s (f .0) (f .1))
+returns c = search needs
 
 returns-2 : tie.Need-returns-2
 returns-2 c = search needs

@@ -13,9 +13,9 @@ Inv-loop n rest₀ k₀ rest k = k + size rest ≡ 1 + size n
 abbrev μ-loop : tie.MeasureT-loop
 μ-loop n rest₀ k₀ rest k = rest
 
--- 32 bits hold no number of more than ten digits
-most : (n : ℕ) → n < 2 ^ 32 → size n ≤ 10
-most n h = few-digits 9 n (omega arith)
+-- 64 bits hold no number of more than twenty digits
+most : (n : ℕ) → n < 2 ^ 64 → size n ≤ 20
+most n h = few-digits 19 n (omega arith)
 
 loop-holds : tie.Need-loop-holds Inv-loop μ-loop
 loop-holds c = omega arith

@@ -36,6 +36,9 @@ slice-aggregate-put-line c = search needs
 magnitude-requires : tie.Need-magnitude-requires
 magnitude-requires c κs = search needs
 
+cast-put-line : tie.Need-cast-put-line
+cast-put-line c = search needs
+
 put-line-requires : tie.Need-put-line-requires
 put-line-requires c κs =
     let s = c .before .before .before .before .before .before .before .before .before .before .before .before .before in
@@ -67,6 +70,7 @@ put-signed-spec =
     put-sign-requires
     slice-aggregate-put-line
     magnitude-requires
+    cast-put-line
     put-line-requires
     same-length
     returns)

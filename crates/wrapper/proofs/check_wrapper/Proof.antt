@@ -2,6 +2,7 @@
 use Prim.Native.Nat.{_≤_, _-_}
 use mathlib.Core.Path.{_≡_, refl, sym, _∙_}
 use native.Mathlib.Omega.{arith}
+use borrow.Author.Needs.{needs}
 use Rattle.tree.specs.Bits.{bitsOf}
 use Rattle.tree.specs.Syntax.{read}
 use Rattle.tree.specs.Wrapper.{wrapperTable}
@@ -21,22 +22,38 @@ abbrev μ-loop : tie.MeasureT-loop
 loop-holds : tie.Need-loop-holds Inv-loop μ-loop
 loop-holds c = (omega arith, refl)
 
+untold-requires : tie.Need-untold-requires Inv-loop μ-loop
+untold-requires c κs = search needs
+
 returns : tie.Need-returns Inv-loop μ-loop
 returns c =
-    let l = c .before .before .loop in
-    missing (c .before .before .before .before .args .input .now) (l .i) (omega arith) (omega arith) ∙ l .inv .1
+    let l = c .before .before .before .loop in
+    rw (c .untold .ensures) (missing (c .before .before .before .before .before .args .input .now) (l .i) (omega arith) (omega arith) ∙ l .inv .1)
 
-shared-slice-read-if2 : tie.Need-shared-slice-read-if2 Inv-loop μ-loop
-shared-slice-read-if2 c = omega arith
+shared-slice-read-byte : tie.Need-shared-slice-read-byte Inv-loop μ-loop
+shared-slice-read-byte c = omega arith
+
+cast-range : tie.Need-cast-range Inv-loop μ-loop
+cast-range c = omega (arith, c .before .shared-slice-known2 .given (c .before .before .before .before .before .loop .i) .fits)
+
+cast-range-2 : tie.Need-cast-range-2 Inv-loop μ-loop
+cast-range-2 c = search needs
+
+cast-range-3 : tie.Need-cast-range-3 Inv-loop μ-loop
+cast-range-3 c = omega (arith, c .before .shared-slice-known2 .given (c .before .before .before .before .before .loop .i) .fits)
+
+range-requires : tie.Need-range-requires Inv-loop μ-loop
+range-requires c κs = search needs
 
 wrapper-byte-requires : tie.Need-wrapper-byte-requires Inv-loop μ-loop
 wrapper-byte-requires c κs = omega arith
 
 returns-2 : tie.Need-returns-2 Inv-loop μ-loop
 returns-2 c =
-    let l = c .before .before .before .before .before .loop in
-    let s = c .before .before .before .before .before .before .before .args .input .now in
-    differs s (l .i) (omega arith) (omega arith) (c .before .before .shared-slice-known2 .given (l .i) .fits) (λ e. c .if2 .taken (e ∙ sym (c .before .wrapper-byte .ensures))) ∙ l .inv .1
+    let l = c .before .before .before .before .before .before .loop in
+    let s = c .before .before .before .before .before .before .before .before .args .input .now in
+    let due = c .before .before .before .wrapper-byte .ensures in
+    rw (c .range .ensures, due) (differs s (l .i) (omega arith) (omega arith) (c .before .before .shared-slice-known2 .given (l .i) .fits) (λ e. c .before .if2 .taken (e ∙ sym due)) ∙ l .inv .1)
 
 add-i : tie.Need-add-i Inv-loop μ-loop
 add-i c = omega arith
@@ -48,7 +65,7 @@ loop-again : tie.Need-loop-again Inv-loop μ-loop
 loop-again c =
     let l = c .before .before .before .before .before .loop in
     let s = c .before .before .before .before .before .before .before .args .input .now in
-    (omega arith, sym (agrees s (l .i) (omega arith) (omega arith) (c .before .before .shared-slice-known2 .given (l .i) .fits) (c .if2 .left ∙ c .before .wrapper-byte .ensures)) ∙ l .inv .1)
+    (omega arith, sym (agrees s (l .i) (omega arith) (omega arith) (c .before .shared-slice-known2 .given (l .i) .fits) (c .if2 .left ∙ c .before .before .wrapper-byte .ensures)) ∙ l .inv .1)
 
 returns-3 : tie.Need-returns-3 Inv-loop μ-loop
 unfolding wrapperTable read
@@ -57,11 +74,11 @@ returns-3 c =
     let e : l .i ≡ 8 = omega arith in
     rw e at (l .inv .1)
 
-cast-t5 : tie.Need-cast-t5 Inv-loop μ-loop
-cast-t5 c = omega arith
+cast-t7 : tie.Need-cast-t7 Inv-loop μ-loop
+cast-t7 c = omega arith
 
-cast-t9 : tie.Need-cast-t9 Inv-loop μ-loop
-cast-t9 c = omega arith
+cast-t12 : tie.Need-cast-t12 Inv-loop μ-loop
+cast-t12 c = omega arith
 
 pub check-wrapper-spec : {M : Type 1} → statement M
 check-wrapper-spec =
@@ -70,11 +87,16 @@ check-wrapper-spec =
     Inv-loop
     μ-loop
     loop-holds
-    cast-t5
+    cast-t7
+    untold-requires
     returns
-    shared-slice-read-if2
     wrapper-byte-requires
-    cast-t9
+    shared-slice-read-byte
+    cast-t12
+    cast-range
+    cast-range-2
+    cast-range-3
+    range-requires
     returns-2
     add-i
     loop-less

@@ -18,7 +18,7 @@ returns : tie.Need-returns
 returns c =
     let s = c .before .before .before .before .args .input .now in
     let told = c .enum-told .given in
-    begins-not s (all-bytes s (λ i. c .before .before .before .shared-slice-known .given i .fits)) (told .0 .0) (told .0 .1 .0) (cc)
+    begins-not s (all-bytes s (λ i. c .before .before .before .shared-slice-known .given i .fits)) (told .0 .0) (told .0 .1 .0) (told .0 .1 .1 .0) (cc)
 
 returns-2 : tie.Need-returns-2
 returns-2 c =

@@ -45,7 +45,7 @@ read-data-requires c κs = search needs
 returns : tie.Need-returns
 returns c =
     let s = c .before .before .before .before .before .before .args .input .now in
-    c .refused .ensures ∙ wrapped-no (bitsOf s) (c .before .before .number .given .0 .0) (c .before .before .number .given .0 .1 .0) (cc)
+    c .refused .ensures ∙ wrapped-no (bitsOf s) (c .before .before .number .given .0 .0) (c .before .before .number .given .0 .1 .0) (c .before .before .number .given .0 .1 .1 .0) (cc)
 
 returns-2 : tie.Need-returns-2
 returns-2 c =

@@ -1,0 +1,4 @@
+pub mod Laws
+pub mod Functions
+pub mod Plain
+pub mod OneAnswer

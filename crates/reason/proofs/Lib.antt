@@ -1,0 +1,5 @@
+pub mod Laws
+pub mod Longest
+pub mod Told
+pub mod Cases
+pub mod OneAnswer
