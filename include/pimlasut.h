@@ -69,10 +69,10 @@ extern "C" {
 #define PIM_READING_OFFSET 2     /* on a refusal, where the failing element begins; see below. Else 0 */
 #define PIM_READING_IN_WRAPPER 3 /* 1 where that is counted from the wrapper, else 0 */
 #define PIM_READING_ELEMENT 4    /* on a refusal, which element fails, one of PIM_ELEMENTS; see below. 0 where none does */
-#define PIM_READING_ALLOWED 5    /* what is told of the values that are allowed: PIM_ALLOWED_UNTOLD, _RANGE or _OTHER */
+#define PIM_READING_KIND 5       /* what is told of the values that are allowed: PIM_KIND_UNTOLD, _RANGE or _OTHER */
 #define PIM_READING_VALUE 6      /* the value that the element has, its lower 32 bits; 0 where none is told */
 #define PIM_READING_VALUE_HIGH 7 /* and its upper 32 bits: not 0 only for 12, where 2^32 bytes or more remain */
-#define PIM_READING_LOWEST 8     /* with PIM_ALLOWED_RANGE the lowest value that is allowed, else 0 */
+#define PIM_READING_LOWEST 8     /* with PIM_KIND_RANGE the lowest value that is allowed, else 0 */
 #define PIM_READING_HIGHEST 9    /* and the highest */
 #define PIM_READING_LEN 10
 
@@ -112,9 +112,9 @@ extern "C" {
  * For 9, 10, 11 and 17 to 19 the offset is that of the block's length, and the element named may stand behind it. Where
  * nothing was refused, and where no element is at fault (13, and 30 to 33 of a unit), all of these are 0.
  */
-#define PIM_ALLOWED_UNTOLD 0
-#define PIM_ALLOWED_RANGE 1 /* from the lowest to the highest, and no value at all where the lowest is above the highest */
-#define PIM_ALLOWED_OTHER 2
+#define PIM_KIND_UNTOLD 0
+#define PIM_KIND_RANGE 1 /* from the lowest to the highest, and no value at all where the lowest is above the highest */
+#define PIM_KIND_OTHER 2
 
 /*
  * The elements, by their names in A/341, tables E.1.1 to E.1.3; then the end of the data, and a byte of the wrapper:

@@ -41,15 +41,15 @@ static int facts_are(uint32_t bits, uint32_t skipped, uint32_t offset, uint32_t 
 }
 
 /* Why, of a refusal; and of what has no element at fault. */
-static int cause_is(uint32_t element, uint32_t allowed, uint32_t value, uint32_t lowest, uint32_t highest)
+static int cause_is(uint32_t element, uint32_t kind, uint32_t value, uint32_t lowest, uint32_t highest)
 {
-    return reading[PIM_READING_ELEMENT] == element && reading[PIM_READING_ALLOWED] == allowed && reading[PIM_READING_VALUE] == value &&
+    return reading[PIM_READING_ELEMENT] == element && reading[PIM_READING_KIND] == kind && reading[PIM_READING_VALUE] == value &&
            reading[PIM_READING_VALUE_HIGH] == 0 && reading[PIM_READING_LOWEST] == lowest && reading[PIM_READING_HIGHEST] == highest;
 }
 
 static int without_a_cause(void)
 {
-    return cause_is(0, PIM_ALLOWED_UNTOLD, 0, 0, 0);
+    return cause_is(0, PIM_KIND_UNTOLD, 0, 0, 0);
 }
 
 /* Of an accepted reading; of a refusal in the data, at a bit; of one without a place. */
@@ -220,22 +220,22 @@ static void why(void)
     static const struct {
         const char *data;
         size_t n;
-        uint32_t element, allowed, value, lowest, highest;
+        uint32_t element, kind, value, lowest, highest;
         const char *text;
     } cases[] = {
-        {"\x30", 1, 1, PIM_ALLOWED_RANGE, 5, 1, 1, "result=4\noffset=0\nelement=app_identifier\nvalue=5\nallowed=1-1\n"},
-        {"\x40\x00\x00\x00\x3F\xFF\xFF\xFF\xC0", 9, 2, PIM_ALLOWED_RANGE, 4294967294u, 0, 0,
+        {"\x30", 1, 1, PIM_KIND_RANGE, 5, 1, 1, "result=4\noffset=0\nelement=app_identifier\nvalue=5\nallowed=1-1\n"},
+        {"\x40\x00\x00\x00\x3F\xFF\xFF\xFF\xC0", 9, 2, PIM_KIND_RANGE, 4294967294u, 0, 0,
          "result=5\noffset=3\nelement=app_version\nvalue=4294967294\nallowed=0-0\n"},
-        {"\x58\x04\x00", 3, 4, PIM_ALLOWED_RANGE, 255, 0, 254, "result=6\noffset=5\nelement=num_ext_blocks\nvalue=255\nallowed=0-254\n"},
-        {"\x51", 1, 5, PIM_ALLOWED_RANGE, 1, 0, 0, "result=7\noffset=7\nelement=dm_alignment_zero_bit\nvalue=1\nallowed=0-0\n"},
-        {"\x5A\x30\x10", 3, 6, PIM_ALLOWED_RANGE, 5, 11, 11, "result=9\noffset=8\nelement=ext_block_length\nvalue=5\nallowed=11-11\n"},
-        {"\x5A\x30\x0E\x00\x20\x04\x00\x00", 8, 10, PIM_ALLOWED_RANGE, 2048, 3072, 1024,
+        {"\x58\x04\x00", 3, 4, PIM_KIND_RANGE, 255, 0, 254, "result=6\noffset=5\nelement=num_ext_blocks\nvalue=255\nallowed=0-254\n"},
+        {"\x51", 1, 5, PIM_KIND_RANGE, 1, 0, 0, "result=7\noffset=7\nelement=dm_alignment_zero_bit\nvalue=1\nallowed=0-0\n"},
+        {"\x5A\x30\x10", 3, 6, PIM_KIND_RANGE, 5, 11, 11, "result=9\noffset=8\nelement=ext_block_length\nvalue=5\nallowed=11-11\n"},
+        {"\x5A\x30\x0E\x00\x20\x04\x00\x00", 8, 10, PIM_KIND_RANGE, 2048, 3072, 1024,
          "result=10\noffset=8\nelement=avg_PQ\nvalue=2048\nallowed=none\n"},
-        {"\x5B\x30\x08\x00\x60\x02\x00\x01\x80\x40\x1F\x01\xD3\x34\x00", 15, 7, PIM_ALLOWED_OTHER, 1, 0, 0,
+        {"\x5B\x30\x08\x00\x60\x02\x00\x01\x80\x40\x1F\x01\xD3\x34\x00", 15, 7, PIM_KIND_OTHER, 1, 0, 0,
          "result=17\noffset=61\nelement=ext_block_level\nvalue=1\nallowed=other\n"},
-        {"\x50\x00\x00", 3, 23, PIM_ALLOWED_RANGE, 2, 0, 0, "result=12\noffset=8\nelement=end\nvalue=2\nallowed=0-0\n"},
-        {"\x5A\x40\x7F", 3, 22, PIM_ALLOWED_UNTOLD, 0, 0, 0, "result=1\noffset=24\nelement=ext_dm_alignment_zero_bit\n"},
-        {"\x50", 1, 0, PIM_ALLOWED_UNTOLD, 0, 0, 0, "result=0\n"},
+        {"\x50\x00\x00", 3, 23, PIM_KIND_RANGE, 2, 0, 0, "result=12\noffset=8\nelement=end\nvalue=2\nallowed=0-0\n"},
+        {"\x5A\x40\x7F", 3, 22, PIM_KIND_UNTOLD, 0, 0, 0, "result=1\noffset=24\nelement=ext_dm_alignment_zero_bit\n"},
+        {"\x50", 1, 0, PIM_KIND_UNTOLD, 0, 0, 0, "result=0\n"},
     };
     expect(sizeof names / sizeof names[0] == PIM_ELEMENTS, "a name for each element");
     memcpy(bytes, "\xB5\x00\x31\x47\x41\x39\x34\x09", 8);
@@ -247,7 +247,7 @@ static void why(void)
         memcpy(bytes + 8, cases[i].data, cases[i].n);
         fill_facts();
         pim_read_wrapped(bytes, 8 + cases[i].n, record, PIM_RECORD_LEN, reading, PIM_READING_LEN);
-        expect(cause_is(cases[i].element, cases[i].allowed, cases[i].value, cases[i].lowest, cases[i].highest), cases[i].text);
+        expect(cause_is(cases[i].element, cases[i].kind, cases[i].value, cases[i].lowest, cases[i].highest), cases[i].text);
         memset(out, 0xEE, sizeof out);
         expect(pim_why_wrapped(bytes, 8 + cases[i].n, out, n, &written) == 0 && written == n && memcmp(out, cases[i].text, n) == 0 && out[n] == 0xEE, cases[i].text);
         memset(out, 0xEE, sizeof out);

@@ -83,7 +83,7 @@ fn of_length(element: Element, size: u32, level: u8) -> Cause
     }
 }
 
-// 9, 10, 11, 17 to 19: of a block whose length is `size` and whose level begins at a position, its fields behind it.
+// 9, 10, 11, 17 to 19: the block's length is `size`, its level begins at `at`, and its fields behind that.
 fn of_block(s: &[u8], at: usize, number: u8, element: Element, size: u32) -> Cause
     requires { ⌜ (at < 2 ^ 33) × ShownBlock number size (drop at (bitsOf (now s))) element (causeIn (bareData (bitsOf (now s)))) ⌝ }
     ensures { λ r. ⌜ r ≡ causeIn (bareData (bitsOf (now (s .entry)))) ⌝ }
@@ -104,7 +104,7 @@ fn of_block(s: &[u8], at: usize, number: u8, element: Element, size: u32) -> Cau
     other(element, level as u64)
 }
 
-// 4 to 6 and the above: of a ue(v) code whose number is v, behind which a position is.
+// 4 to 6, and those above: the code that begins at the offset has the number v, and `at` is the position behind it.
 fn of_code(s: &[u8], at: usize, number: u8, element: Element, v: u32) -> Cause
     requires { ⌜ (at < 2 ^ 33) × ShownCode number v (drop at (bitsOf (now s))) element (causeIn (bareData (bitsOf (now s)))) ⌝ }
     ensures { λ r. ⌜ r ≡ causeIn (bareData (bitsOf (now (s .entry)))) ⌝ }
