@@ -1,4 +1,4 @@
--- Cases by hand from 02, f: wrapped data, and the whole text that tells why it is refused.
+-- Wrapped data, and the whole text of 02, f that tells why it is refused, as literals: 19 are samples, whose texts second/ made from the papers, and six are by hand.
 use Prim.Native.Nat.{ℕ}
 use Prim.Native.String.{String}
 use mathlib.Core.Path.{_≡_, refl}
