@@ -142,21 +142,30 @@ extern "C" {
 #define PIM_UNIT_LIMIT 4096
 
 /*
- * A table is PIM_TABLE_LEN numbers: PIM_POINTS points of PIM_POINT_LEN numbers each, table[PIM_POINT(i)] being the point i:
+ * A point is PIM_POINT_LEN numbers:
  *
- *   table[PIM_POINT(i)]       its picture number, in output order
- *   table[PIM_POINT(i) + 1]   its record, PIM_RECORD_LEN numbers
+ *   point[PIM_POINT_PICTURE]   its picture number, in output order
+ *   point[PIM_POINT_SEGMENT]   the number of the segment that it came from, 0 to 65,535
+ *   point[PIM_POINT_RECORD]    its record, PIM_RECORD_LEN numbers from there on
  *
+ * Exactly one row of numbers stands for each point. A row that stands for none, because its segment is no uint16_t or because
+ * the rest of it stands for no record, is treated as a point whose record is not valid.
+ *
+ * A table is PIM_TABLE_LEN numbers, PIM_POINTS points, of which the point i begins at table[PIM_POINT(i)].
  * It crosses as numbers, and not as the library's own points, because a point's record holds an enum and no enum crosses.
- * The functions work on the numbers where they lie and copy no table. All zeros is a table whose points have picture 0 and
- * the empty record, so a static or calloc'd table is ready to use; it has 37,632 bytes.
+ * The functions work on the numbers where they lie and copy no table. A cleared entry, with picture 0, segment 0 and the empty
+ * record, is all zeros, so a static or calloc'd table is ready to use; it has 37,888 bytes.
  * A track is a table with a count: the first count points have rising picture numbers and valid records with the refresh
- * flag 1. What lies past them is ignored. With count 0 any table is the empty track.
+ * flag 1. What lies past them is ignored. With count 0 any table is the empty track. Two points are equal if their pictures,
+ * their segments and their records are.
  */
 #define PIM_POINTS 64
-#define PIM_POINT_LEN (1 + PIM_RECORD_LEN) /* 147 */
+#define PIM_POINT_PICTURE 0
+#define PIM_POINT_SEGMENT 1
+#define PIM_POINT_RECORD 2
+#define PIM_POINT_LEN (PIM_POINT_RECORD + PIM_RECORD_LEN) /* 148 */
 #define PIM_POINT(i) (PIM_POINT_LEN * (i))
-#define PIM_TABLE_LEN PIM_POINT(PIM_POINTS) /* 9,408 */
+#define PIM_TABLE_LEN PIM_POINT(PIM_POINTS) /* 9,472 */
 
 /* The numbers that the shader gets. */
 #define PIM_SHADER_LEN 7
@@ -178,13 +187,14 @@ enum {
     PIM_REPEAT = 11,        /* a target_max_PQ already met */
     PIM_BYTES_REMAIN = 12,  /* bytes remain after the data */
     PIM_SHORT = 13,         /* output shorter than needed, or a result table that has not exactly 64 entries; and here, before
-                               everything else, any record, facts of a reading, block or table that has not exactly its
+                               everything else, any record, facts of a reading, block, point or table that has not exactly its
                                length */
     PIM_NOT_VALID = 14,     /* record to be written or placed is not valid, or block to be converted is not a level 2 block
                                in range */
     PIM_MANY_POINTS = 15,   /* a join has more than 64 different numbers */
-    PIM_NOT_TRACK = 16,     /* not a track: count above 64, numbers not rising, or a point's record not valid with flag 1 (a
-                               table that has not exactly 64 entries is refused with 13 here) */
+    PIM_NOT_TRACK = 16,     /* not a track: count above 64, numbers not rising, a point's record not valid with flag 1, or
+                               numbers that stand for no point, as a segment that is no uint16_t does (a table that has not
+                               exactly 64 entries is refused with 13 here) */
     PIM_SECOND_LEVEL_1 = 17,
     PIM_SECOND_LEVEL_5 = 18,
     PIM_SEVENTEENTH_LEVEL_2 = 19, /* whether its target_max_PQ was met or not */
@@ -248,24 +258,26 @@ uint32_t pim_write_unit(const int32_t *record, size_t record_len, uint8_t *out, 
 uint32_t pim_shader(const int32_t *block, size_t block_len, uint32_t *bits, size_t bits_len);
 
 /*
- * Make a track of one point, a record at a picture, in a table; with the refresh flag 0, the empty track. Done: the table,
- * with zeros past the point, and its count. Refused: 13 if record_len is not PIM_RECORD_LEN or table_len is not
+ * Make a track of one point, a record of a segment at a picture, in a table; with the refresh flag 0, the empty track. Done:
+ * the table, with zeros past the point, and its count. Refused: 13 if record_len is not PIM_RECORD_LEN or table_len is not
  * PIM_TABLE_LEN; then 14 if the record is not valid.
  */
-uint32_t pim_place(const int32_t *record, size_t record_len, int32_t picture, int32_t *table, size_t table_len, uint32_t *count);
+uint32_t pim_place(const int32_t *record, size_t record_len, int32_t picture, uint16_t segment, int32_t *table,
+                   size_t table_len, uint32_t *count);
 
 /*
- * Look a picture up in a track. Done: found is 1 and record is the record in force, that of the point with the greatest
- * number not above picture; or found is 0, and record stays as it was, since nothing is in force. Refused: 13 if table_len
- * is not PIM_TABLE_LEN or record_len is not PIM_RECORD_LEN; then 16 if table and count are no track.
+ * Look a picture up in a track. Done: found is 1 and point is the one in force, that with the greatest number not above
+ * picture: the picture at which its record has started, its segment, its record; or found is 0 and point is all zeros, since
+ * nothing is in force. Refused: 13 if table_len is not PIM_TABLE_LEN or point_len is not PIM_POINT_LEN; then 16 if table and
+ * count are no track.
  */
-uint32_t pim_lookup(const int32_t *table, size_t table_len, size_t count, int32_t picture, int32_t *record, size_t record_len,
+uint32_t pim_lookup(const int32_t *table, size_t table_len, size_t count, int32_t picture, int32_t *point, size_t point_len,
                     uint32_t *found);
 
 /*
- * Join two tracks in a third table: every number of either, in rising order, with b's record where both hold the number.
- * Done: the table, with zeros past the points, and its count. Refused: 13 if a length is not PIM_TABLE_LEN; then 16 if a
- * is no track; then 16 if b is none; then 15 if there are more than PIM_POINTS different numbers.
+ * Join two tracks in a third table: every number of either, in rising order, with b's point, its segment and its record, where
+ * both hold the number. Done: the table, with zeros past the points, and its count. Refused: 13 if a length is not
+ * PIM_TABLE_LEN; then 16 if a is no track; then 16 if b is none; then 15 if there are more than PIM_POINTS different numbers.
  */
 uint32_t pim_join(const int32_t *a, size_t a_len, size_t a_count, const int32_t *b, size_t b_len, size_t b_count, int32_t *table,
                   size_t table_len, uint32_t *count);

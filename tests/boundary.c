@@ -419,7 +419,7 @@ static void refused(int place, int32_t number, const char *what)
     memcpy(old_bytes, bytes, sizeof bytes);
     memcpy(old_table, table, sizeof table);
     expect(pim_write_bare(record, PIM_RECORD_LEN, bytes, sizeof bytes, &written) == 14, what);
-    expect(pim_place(record, PIM_RECORD_LEN, 5, table, PIM_TABLE_LEN, &count) == 14, what);
+    expect(pim_place(record, PIM_RECORD_LEN, 5, 6, table, PIM_TABLE_LEN, &count) == 14, what);
     expect(memcmp(bytes, old_bytes, sizeof bytes) == 0 && memcmp(table, old_table, sizeof table) == 0 && written == 7 && count == 7,
            "a refused write or placing leaves all as it was");
 }
@@ -434,37 +434,154 @@ static void shader_numbers(void)
     expect(memcmp(bits, expected, sizeof bits) == 0, "its seven numbers");
 }
 
+/* The point of a lookup, between numbers that are not lent. */
+static int32_t lent[PIM_POINT_LEN + 2];
+static int32_t *const point = lent + 1;
+
+static void fill_point(void)
+{
+    for (int i = 0; i < PIM_POINT_LEN + 2; i++)
+        lent[i] = 7;
+}
+
+static int point_is(int32_t picture, int32_t segment, const int32_t *its_record)
+{
+    return lent[0] == 7 && point[PIM_POINT_PICTURE] == picture && point[PIM_POINT_SEGMENT] == segment &&
+           memcmp(point + PIM_POINT_RECORD, its_record, sizeof two_blocks) == 0 && lent[PIM_POINT_LEN + 1] == 7;
+}
+
+static int point_as_it_was(void)
+{
+    for (int i = 0; i < PIM_POINT_LEN + 2; i++)
+        if (lent[i] != 7)
+            return 0;
+    return 1;
+}
+
+/* Whether a table's entries from n on are cleared. */
+static int cleared_from(const int32_t *entries, size_t n)
+{
+    return memcmp(entries + PIM_POINT(n), zeros, (PIM_TABLE_LEN - PIM_POINT(n)) * sizeof zeros[0]) == 0;
+}
+
 static void tracks(void)
 {
     uint32_t count = 7, found = 7, other = 7;
     memset(table, 0x5A, sizeof table);
-    expect(pim_lookup(zeros, PIM_TABLE_LEN, 0, 0, record, PIM_RECORD_LEN, &found) == 0 && found == 0, "zeros with count 0 are the empty track");
-    expect(pim_lookup(zeros, PIM_TABLE_LEN, 1, 0, record, PIM_RECORD_LEN, &found) == 16, "the empty record stands in no track");
-    expect(pim_place(zeros, PIM_RECORD_LEN, 9, table, PIM_TABLE_LEN, &count) == 0 && count == 0, "146 zeros are the empty record");
-    expect(memcmp(table, zeros, sizeof table) == 0, "and leave a table of zeros");
-    expect(pim_place(two_blocks, PIM_RECORD_LEN, -3, first, PIM_TABLE_LEN, &count) == 0 && count == 1, "a placing");
-    expect(first[0] == -3 && memcmp(first + 1, two_blocks, sizeof two_blocks) == 0, "the point");
-    expect(memcmp(first + PIM_POINT(1), zeros, sizeof zeros - PIM_POINT_LEN * sizeof zeros[0]) == 0, "zeros past it");
+    fill_point();
+    expect(pim_lookup(zeros, PIM_TABLE_LEN, 0, 0, point, PIM_POINT_LEN, &found) == 0 && found == 0, "zeros with count 0 are the empty track");
+    expect(point_is(0, 0, zeros), "in which a lookup gives zeros");
+    fill_point();
+    expect(pim_lookup(zeros, PIM_TABLE_LEN, 1, 0, point, PIM_POINT_LEN, &found) == 16, "the empty record stands in no track");
+    expect(point_as_it_was(), "and a refused lookup leaves the point as it was");
+    expect(pim_place(zeros, PIM_RECORD_LEN, 9, 0, table, PIM_TABLE_LEN, &count) == 0 && count == 0, "146 zeros are the empty record");
+    expect(cleared_from(table, 0), "and leave a table of zeros");
+    memset(table, 0x5A, sizeof table);
+    count = 7;
+    expect(pim_place(zeros, PIM_RECORD_LEN, 9, 7, table, PIM_TABLE_LEN, &count) == 0 && count == 0, "and so with segment 7");
+    expect(cleared_from(table, 0), "which stands nowhere");
+    memset(first, 0x5A, sizeof first);
+    expect(pim_place(two_blocks, PIM_RECORD_LEN, -3, 65535, first, PIM_TABLE_LEN, &count) == 0 && count == 1, "a placing");
+    expect(first[PIM_POINT_PICTURE] == -3 && first[PIM_POINT_SEGMENT] == 65535, "the picture and the segment");
+    expect(memcmp(first + PIM_POINT_RECORD, two_blocks, sizeof two_blocks) == 0, "and the record of the point");
+    expect(cleared_from(first, 1), "zeros past it");
     memcpy(record, two_blocks, sizeof record);
     record[PIM_PLACE(1) + 1] = 1;
-    expect(pim_place(record, PIM_RECORD_LEN, 4, second, PIM_TABLE_LEN, &other) == 0 && other == 1, "another");
+    expect(pim_place(record, PIM_RECORD_LEN, 4, 258, second, PIM_TABLE_LEN, &other) == 0 && other == 1, "another");
+    memset(table, 0x5A, sizeof table);
     expect(pim_join(first, PIM_TABLE_LEN, 1, second, PIM_TABLE_LEN, 1, table, PIM_TABLE_LEN, &count) == 0 && count == 2, "a join");
     expect(memcmp(table, first, PIM_POINT_LEN * sizeof table[0]) == 0, "its first point");
     expect(memcmp(table + PIM_POINT(1), second, PIM_POINT_LEN * sizeof table[0]) == 0, "its second point");
-    expect(memcmp(table + PIM_POINT(2), zeros, sizeof zeros - 2 * PIM_POINT_LEN * sizeof zeros[0]) == 0, "zeros past them");
-    memset(record, 0x5A, sizeof record);
-    memcpy(old_record, record, sizeof record);
-    expect(pim_lookup(table, PIM_TABLE_LEN, 2, -4, record, PIM_RECORD_LEN, &found) == 0 && found == 0, "nothing in force yet");
-    expect(memcmp(record, old_record, sizeof record) == 0, "and the record stays as it was");
-    expect(pim_lookup(table, PIM_TABLE_LEN, 2, 3, record, PIM_RECORD_LEN, &found) == 0 && found == 1, "the first is in force");
-    expect(memcmp(record, two_blocks, sizeof record) == 0, "its record");
+    expect(cleared_from(table, 2), "zeros past them");
+    fill_point();
+    expect(pim_lookup(table, PIM_TABLE_LEN, 2, -4, point, PIM_POINT_LEN, &found) == 0 && found == 0, "nothing in force yet");
+    expect(point_is(0, 0, zeros), "and the point is all zeros");
+    fill_point();
+    expect(pim_lookup(table, PIM_TABLE_LEN, 2, 3, point, PIM_POINT_LEN, &found) == 0 && found == 1, "the first is in force");
+    expect(point_is(-3, 65535, two_blocks), "its start, its segment and its record");
+    fill_point();
+    expect(pim_lookup(table, PIM_TABLE_LEN, 2, 2147483647, point, PIM_POINT_LEN, &found) == 0 && found == 1, "the second is in force");
+    expect(point_is(4, 258, record), "with its own");
     found = 7;
-    expect(pim_lookup(table, PIM_TABLE_LEN, 65, 3, record, PIM_RECORD_LEN, &found) == 16, "a count of 65");
-    expect(pim_lookup(table, PIM_TABLE_LEN - 1, 2, 3, record, PIM_RECORD_LEN, &found) == 13, "a table one number short");
+    fill_point();
+    expect(pim_lookup(table, PIM_TABLE_LEN, 65, 3, point, PIM_POINT_LEN, &found) == 16, "a count of 65");
+    expect(pim_lookup(table, PIM_TABLE_LEN - 1, 2, 3, point, PIM_POINT_LEN, &found) == 13, "a table one number short");
+    expect(pim_lookup(table, PIM_TABLE_LEN, 2, 3, point, PIM_POINT_LEN - 1, &found) == 13, "a point one number short");
+    expect(pim_lookup(table, PIM_TABLE_LEN, 2, 3, point, PIM_POINT_LEN + 1, &found) == 13, "a point one number too long");
+    expect(pim_lookup(table, PIM_TABLE_LEN, 2, 3, point, PIM_RECORD_LEN, &found) == 13, "room for a record alone");
+    expect(pim_lookup(table, PIM_TABLE_LEN, 2, -4, point, 0, &found) == 13, "no room, where nothing is in force");
+    expect(pim_lookup(table, PIM_TABLE_LEN, 65, 3, point, PIM_POINT_LEN - 1, &found) == 13, "a short point comes before what is no track");
+    expect(point_as_it_was() && found == 7, "a refusal leaves the point and found as they were");
     memcpy(old_table, table, sizeof table);
-    first[PIM_PLACE(17) + 1] = 3;
+    first[PIM_POINT_RECORD + PIM_PLACE(17)] = 3;
     expect(pim_join(first, PIM_TABLE_LEN, 1, second, PIM_TABLE_LEN, 1, table, PIM_TABLE_LEN, &count) == 16, "a point that names no record");
-    expect(memcmp(table, old_table, sizeof table) == 0 && count == 2 && found == 7, "a refusal leaves all as it was");
+    expect(memcmp(table, old_table, sizeof table) == 0 && count == 2, "a refusal leaves all as it was");
+}
+
+/* Two tracks with the number 4 and an equal record there, from the segments 1 and 2; the first has the number -3 too. */
+static void segments(void)
+{
+    uint32_t count = 7, found = 7;
+    expect(pim_place(two_blocks, PIM_RECORD_LEN, -3, 9, first, PIM_TABLE_LEN, &count) == 0, "a placing of segment 9");
+    expect(pim_place(two_blocks, PIM_RECORD_LEN, 4, 1, second, PIM_TABLE_LEN, &count) == 0, "and of segment 1");
+    expect(pim_join(first, PIM_TABLE_LEN, 1, second, PIM_TABLE_LEN, 1, old_table, PIM_TABLE_LEN, &count) == 0 && count == 2, "joined");
+    memcpy(first, old_table, sizeof first);
+    expect(pim_place(two_blocks, PIM_RECORD_LEN, 4, 2, second, PIM_TABLE_LEN, &count) == 0 && count == 1, "and of segment 2");
+    for (int swapped = 0; swapped < 2; swapped++) {
+        const int32_t *a = swapped ? second : first, *b = swapped ? first : second;
+        memset(table, 0x5A, sizeof table);
+        count = 7;
+        expect(pim_join(a, PIM_TABLE_LEN, swapped ? 1 : 2, b, PIM_TABLE_LEN, swapped ? 2 : 1, table, PIM_TABLE_LEN, &count) == 0 && count == 2,
+               "a join with a number that both hold");
+        expect(memcmp(table, first, PIM_POINT_LEN * sizeof table[0]) == 0, "the point that one holds, with its segment");
+        expect(memcmp(table + PIM_POINT(1), swapped ? first + PIM_POINT(1) : second, PIM_POINT_LEN * sizeof table[0]) == 0, "the second track's point");
+        expect(table[PIM_POINT(1) + PIM_POINT_SEGMENT] == (swapped ? 1 : 2), "the second track's segment, though the records are equal");
+        expect(cleared_from(table, 2), "and cleared entries, whose segments are 0");
+        fill_point();
+        expect(pim_lookup(table, PIM_TABLE_LEN, count, 5, point, PIM_POINT_LEN, &found) == 0 && found == 1, "which is looked up");
+        expect(point_is(4, swapped ? 1 : 2, two_blocks), "to the same segment");
+    }
+    memcpy(record, two_blocks, sizeof record);
+    record[PIM_PLACE(1) + 1] = 1;
+    expect(pim_place(record, PIM_RECORD_LEN, 4, 2, old_table, PIM_TABLE_LEN, &count) == 0 && count == 1, "another record of segment 2");
+    expect(pim_join(second, PIM_TABLE_LEN, 1, old_table, PIM_TABLE_LEN, 1, table, PIM_TABLE_LEN, &count) == 0 && count == 1, "joined behind the one");
+    expect(memcmp(table, old_table, sizeof table) == 0, "takes its place, though the segments are equal");
+}
+
+/* Two points, of segment 9 and of this one: a track or none. Past the count it is ignored. */
+static void segment_in_a_table(int32_t segment, int is_track, const char *what)
+{
+    uint32_t count = 7, found = 7;
+    memset(table, 0, sizeof table);
+    table[PIM_POINT_PICTURE] = -3;
+    table[PIM_POINT_SEGMENT] = 9;
+    memcpy(table + PIM_POINT_RECORD, two_blocks, sizeof two_blocks);
+    table[PIM_POINT(1) + PIM_POINT_PICTURE] = 4;
+    table[PIM_POINT(1) + PIM_POINT_SEGMENT] = segment;
+    memcpy(table + PIM_POINT(1) + PIM_POINT_RECORD, two_blocks, sizeof two_blocks);
+    memset(old_table, 0x5A, sizeof old_table);
+    memcpy(first, old_table, sizeof first);
+    fill_point();
+    if (is_track) {
+        expect(pim_lookup(table, PIM_TABLE_LEN, 2, 4, point, PIM_POINT_LEN, &found) == 0 && found == 1 && point_is(4, segment, two_blocks), what);
+        expect(pim_join(table, PIM_TABLE_LEN, 2, zeros, PIM_TABLE_LEN, 0, first, PIM_TABLE_LEN, &count) == 0 && count == 2, what);
+        expect(memcmp(first, table, sizeof first) == 0, what);
+    } else {
+        expect(pim_lookup(table, PIM_TABLE_LEN, 2, 4, point, PIM_POINT_LEN, &found) == PIM_NOT_TRACK, what);
+        expect(pim_lookup(table, PIM_TABLE_LEN, 2, -3, point, PIM_POINT_LEN, &found) == PIM_NOT_TRACK, "though another point is in force");
+        expect(pim_join(table, PIM_TABLE_LEN, 2, zeros, PIM_TABLE_LEN, 0, first, PIM_TABLE_LEN, &count) == PIM_NOT_TRACK, what);
+        expect(pim_join(zeros, PIM_TABLE_LEN, 0, table, PIM_TABLE_LEN, 2, first, PIM_TABLE_LEN, &count) == PIM_NOT_TRACK, what);
+        expect(pim_lookup(table, PIM_TABLE_LEN, 2, 4, point, PIM_POINT_LEN - 1, &found) == PIM_SHORT, "a short point comes before it");
+        expect(point_as_it_was() && found == 7 && count == 7 && memcmp(first, old_table, sizeof first) == 0, "a refusal leaves all as it was");
+    }
+    fill_point();
+    expect(pim_lookup(table, PIM_TABLE_LEN, 1, 4, point, PIM_POINT_LEN, &found) == 0 && found == 1, "past the count it is ignored");
+    expect(point_is(-3, 9, two_blocks), "and the point before is in force");
+    expect(pim_join(table, PIM_TABLE_LEN, 1, table, PIM_TABLE_LEN, 1, first, PIM_TABLE_LEN, &count) == 0 && count == 1, "in a join too");
+    expect(memcmp(first, table, PIM_POINT_LEN * sizeof table[0]) == 0 && cleared_from(first, 1), "which copies nothing of it");
+    table[PIM_POINT_SEGMENT] = segment;
+    table[PIM_POINT(1) + PIM_POINT_SEGMENT] = 9;
+    expect(pim_lookup(table, PIM_TABLE_LEN, 2, 4, point, PIM_POINT_LEN, &found) == (is_track ? PIM_DONE : PIM_NOT_TRACK), "it is the first point's");
 }
 
 int main(void)
@@ -505,6 +622,14 @@ int main(void)
     longest_unit(PIM_UNIT_LIMIT + 1, PIM_UNIT_HEADER);
     shader_numbers();
     tracks();
+    segments();
+    segment_in_a_table(0, 1, "a segment of 0");
+    segment_in_a_table(65535, 1, "the last segment");
+    segment_in_a_table(65536, 0, "a segment of 65,536");
+    segment_in_a_table(65536 + 5, 0, "a segment of 65,541");
+    segment_in_a_table(-1, 0, "a segment of -1");
+    segment_in_a_table(2147483647, 0, "the greatest int32_t for a segment");
+    segment_in_a_table(-2147483647 - 1, 0, "the least");
     printf(failed ? "failed\n" : "as the header says\n");
     return failed;
 }

@@ -11,7 +11,7 @@ use crate::own::{self, BITS, READING, SKIPPED};
 use crate::proved;
 use crate::reader::WRAPPER;
 use crate::record::{block_to_flat, flat, Block, Record, BARE_BYTES, EMPTY, FLAT, WRAPPED_BYTES};
-use crate::track::{Point, FLAT_TABLE, POINTS};
+use crate::track::{Point, FLAT_POINT, FLAT_TABLE, POINTS, RECORD, SEGMENT};
 use crate::unit::UNIT_LIMIT;
 use crate::units::{message, ours, plan, UNIT_BYTES};
 use std::io::Write as _;
@@ -65,7 +65,7 @@ pub enum Implementation {
 type Read = fn(&[u8], &mut [i32], &mut [u32]) -> u32;
 type Write = fn(&[i32], &mut [u8], &mut u32) -> u32;
 type Shader = fn(&[i32], &mut [u32]) -> u32;
-type Place = fn(&[i32], i32, &mut [i32], &mut u32) -> u32;
+type Place = fn(&[i32], i32, u16, &mut [i32], &mut u32) -> u32;
 type Lookup = fn(&[i32], usize, i32, &mut [i32], &mut u32) -> u32;
 type Join = fn(&[i32], usize, &[i32], usize, &mut [i32], &mut u32) -> u32;
 
@@ -122,12 +122,12 @@ fn record(bytes: usize, n: u16) -> Record {
 }
 
 /// A track of 40 points that begins at a picture; the records are those of
-/// 44 bytes.
-fn forty(first: i32) -> Track {
+/// 44 bytes, and all have one segment.
+fn forty(first: i32, segment: i32) -> Track {
     let mut made = Track::empty();
     for i in 0..40 {
         let record = flat(&record(44, i as u16));
-        made.table.set(i, first + i as i32, &record);
+        made.table.set(i, first + i as i32, segment, &record);
     }
     made.count = 40;
     made
@@ -349,20 +349,21 @@ pub fn bench(operation: &str, whose: Implementation, n: u64) -> Option<u64> {
         "lookup40" => {
             let lookup: Lookup = hidden(if own_one { own::lookup } else { proved::lookup });
             // The last point: the record in force is found at the end.
-            let made = forty(1000);
-            let mut record = [0; FLAT];
+            let made = forty(1000, 1);
+            let mut point = [0; FLAT_POINT];
             let mut found = 0;
             for _ in 0..n {
                 let table = &made.table.numbers;
-                let number = lookup(table, made.count, 1000 + 39, &mut record, &mut found);
-                sum = mix(sum, (number + found) as u64 + record[3] as u64);
+                let number = lookup(table, made.count, 1000 + 39, &mut point, &mut found);
+                let numbers = point[SEGMENT] as u64 + point[RECORD + 3] as u64;
+                sum = mix(sum, (number + found) as u64 + numbers);
             }
         }
         "join40" => {
             let join: Join = hidden(if own_one { own::join } else { proved::join });
             // 40 and 40 that share 16 make 64.
-            let a = forty(1000);
-            let b = forty(1024);
+            let a = forty(1000, 1);
+            let b = forty(1024, 2);
             let mut table = vec![0; FLAT_TABLE];
             let mut count = 0;
             for _ in 0..n {
@@ -560,26 +561,26 @@ pub fn stack(operation: &str, whose: Implementation) -> Option<usize> {
             let function: Place = if own_one { own::place } else { proved::place };
             used(
                 function,
-                |_, _, _, _| 0,
-                |place| number |= place(&record, 1000, &mut table, &mut 0),
+                |_, _, _, _, _| 0,
+                |place| number |= place(&record, 1000, 1, &mut table, &mut 0),
             )
         }
         "lookup40" => {
-            let made = forty(1000);
-            let mut record = [0; FLAT];
+            let made = forty(1000, 1);
+            let mut point = [0; FLAT_POINT];
             let function: Lookup = if own_one { own::lookup } else { proved::lookup };
             used(
                 function,
                 |_, _, _, _, _| 0,
                 |lookup| {
                     let table = &made.table.numbers;
-                    number |= lookup(table, made.count, 1000 + 39, &mut record, &mut 0);
+                    number |= lookup(table, made.count, 1000 + 39, &mut point, &mut 0);
                 },
             )
         }
         "join40" => {
-            let a = forty(1000);
-            let b = forty(1024);
+            let a = forty(1000, 1);
+            let b = forty(1024, 2);
             let mut table = vec![0; FLAT_TABLE];
             let function: Join = if own_one { own::join } else { proved::join };
             used(

@@ -15,7 +15,7 @@ use crate::own::{NO_VALUE, OFFSET, OTHER, RANGE, READING, SKIPPED, VALUE, VALUE_
 use crate::proved;
 use crate::reader::{Refusal, WRAPPER};
 use crate::record::{flat, FLAT, WRAPPED_BYTES};
-use crate::track::{point_from_flat, FLAT_POINT, FLAT_TABLE};
+use crate::track::{point_from_flat, FLAT_POINT, FLAT_TABLE, PICTURE, RECORD, SEGMENT};
 use crate::why::{Element, ELEMENTS, MOST};
 use crate::writer;
 
@@ -192,8 +192,28 @@ const FORMS: [(&str, IsForm); 17] = [
     ("9 of ten digits", |n, f| n == 9 && ten_digits(f)),
 ];
 
-/// A table as it crosses the interface: for each point its picture, then its
-/// flat record. It can have any number of numbers; only 64 points are right.
+/// In which of two points that stand at one number they differ.
+#[derive(Clone, Copy, PartialEq, Eq)]
+pub enum Differ {
+    Nothing,
+    Segments,
+    Records,
+    Both,
+}
+
+impl Differ {
+    pub fn of(records: bool, segments: bool) -> Differ {
+        match (records, segments) {
+            (false, false) => Differ::Nothing,
+            (false, true) => Differ::Segments,
+            (true, false) => Differ::Records,
+            (true, true) => Differ::Both,
+        }
+    }
+}
+
+/// A table as it crosses the interface: for each point its picture, its segment,
+/// then its flat record. It can have any number of numbers; only 64 points are right.
 #[derive(Clone, PartialEq, Eq)]
 pub struct Table {
     pub numbers: Vec<i32>,
@@ -204,7 +224,7 @@ fn point_at(i: usize) -> std::ops::Range<usize> {
 }
 
 impl Table {
-    /// 64 points of picture 0 with the empty record.
+    /// 64 points of picture 0 and segment 0 with the empty record.
     pub fn cleared() -> Table {
         Table {
             numbers: vec![0; FLAT_TABLE],
@@ -212,17 +232,38 @@ impl Table {
     }
 
     pub fn picture(&self, at: usize) -> i32 {
-        self.numbers[FLAT_POINT * at]
+        self.numbers[FLAT_POINT * at + PICTURE]
     }
 
-    pub fn set(&mut self, at: usize, picture: i32, record: &[i32; FLAT]) {
-        self.numbers[FLAT_POINT * at] = picture;
+    pub fn segment(&self, at: usize) -> i32 {
+        self.numbers[FLAT_POINT * at + SEGMENT]
+    }
+
+    /// All numbers of a point.
+    pub fn row(&self, at: usize) -> &[i32] {
+        &self.numbers[point_at(at)]
+    }
+
+    /// The segment is any number, for a table can hold one that is no segment's.
+    pub fn set(&mut self, at: usize, picture: i32, segment: i32, record: &[i32; FLAT]) {
+        self.set_picture(at, picture);
+        self.set_segment(at, segment);
         self.set_record(at, record);
+    }
+
+    /// The same point at another picture.
+    pub fn set_picture(&mut self, at: usize, picture: i32) {
+        self.numbers[FLAT_POINT * at + PICTURE] = picture;
+    }
+
+    /// Another segment at the same picture.
+    pub fn set_segment(&mut self, at: usize, segment: i32) {
+        self.numbers[FLAT_POINT * at + SEGMENT] = segment;
     }
 
     /// Another record at the same picture.
     pub fn set_record(&mut self, at: usize, record: &[i32; FLAT]) {
-        self.numbers[point_at(at)][1..].copy_from_slice(record);
+        self.numbers[point_at(at)][RECORD..].copy_from_slice(record);
     }
 
     pub fn copy(&mut self, to: usize, other: &Table, from: usize) {
@@ -254,7 +295,7 @@ impl Table {
     }
 }
 
-#[derive(Clone)]
+#[derive(Clone, PartialEq, Eq)]
 pub struct Track {
     pub table: Table,
     pub count: usize,
@@ -273,6 +314,8 @@ impl Track {
 const AROUND: usize = 4;
 /// Room for the longest flat record that is lent.
 const RECORD_ROOM: usize = 2 * FLAT + 2 * AROUND;
+/// Room for the longest flat point that is lent.
+const POINT_ROOM: usize = 2 * FLAT_POINT + 2 * AROUND;
 /// Room for the most facts of a reading that are lent.
 const READING_ROOM: usize = 2 * READING + 2 * AROUND;
 /// Room for the longest output that is lent.
@@ -290,10 +333,28 @@ const TABLE_ROOM: usize = FLAT_TABLE + FLAT_POINT + 2 * AROUND_TABLE;
 pub struct Compare {
     /// How often each function gave each number.
     counts: [[u64; NUMBERS]; FUNCTIONS.len()],
-    /// Answers 0 of a lookup: nothing, a record.
+    /// Answers 0 of a lookup: nothing, a point.
     found: [u64; 2],
+    /// The segments of the points that lookups gave: 0, 65,535, another.
+    found_segments: [u64; 3],
     /// Answers 0 of a placing: the empty track, a track of one point.
     placed: [u64; 2],
+    /// The segments of the points that were placed, in the same way, and empty tracks
+    /// that were placed with a segment other than 0.
+    placed_segments: [u64; 4],
+    /// Numbers that both tracks of a done join hold, by `Differ`.
+    shared: [u64; 4],
+    /// Lookups that gave a point of the second track where the first had one with an
+    /// equal record and another segment.
+    found_of_second: [u64; 1],
+    /// Joins whose swapping gave the same track, another by a record at least, and
+    /// another by segments alone.
+    swapped: [u64; 3],
+    /// Three tracks whose two groupings gave the same track, and were refused.
+    grouped: [u64; 2],
+    /// Lookups and joins refused with 16 because of a number that is no segment's, and
+    /// for nothing else.
+    no_segment: [u64; 2],
     /// Round trips that came back: from bytes to the same bytes, from a record
     /// to the same record, and from a unit by the one that is written of its
     /// record to the same record.
@@ -318,6 +379,8 @@ pub struct Compare {
     own_record: [i32; RECORD_ROOM],
     proved_record: [i32; RECORD_ROOM],
     rival_record: [i32; RECORD_ROOM],
+    own_point: [i32; POINT_ROOM],
+    proved_point: [i32; POINT_ROOM],
     own_reading: [u32; READING_ROOM],
     proved_reading: [u32; READING_ROOM],
     rival_reading: [u32; READING_ROOM],
@@ -565,19 +628,27 @@ fn numbers(list: &[i32]) -> String {
     text
 }
 
-/// A point: the picture and the record's bare payload, or the flat record if
-/// that is not valid.
+/// A point: the picture, the segment and the record's bare payload, or the flat
+/// record if the numbers name no point or the record is not valid.
 fn point(numbers_of_it: &[i32]) -> String {
     let mut payload = [0; crate::record::BARE_BYTES];
+    let picture = numbers_of_it[PICTURE];
+    let segment = numbers_of_it[SEGMENT];
     if let Some(point) = point_from_flat(numbers_of_it) {
         if let Ok(n) = writer::write_bare(&point.record, &mut payload) {
-            return format!("{:>11} {}", point.picture, hex(&payload[..n]));
+            return format!(
+                "{:>11} segment {:>5} {}",
+                picture,
+                segment,
+                hex(&payload[..n])
+            );
         }
     }
     format!(
-        "{:>11} no valid record, {}",
-        numbers_of_it[0],
-        numbers(&numbers_of_it[1..])
+        "{:>11} segment {:>5} no point or no valid record, {}",
+        picture,
+        segment,
+        numbers(&numbers_of_it[RECORD..])
     )
 }
 
@@ -635,6 +706,15 @@ fn first_difference<T: PartialEq + std::fmt::Debug>(
     String::new()
 }
 
+/// Where the counts have a segment: 0, 65,535, another.
+fn which_segment(segment: i32) -> usize {
+    match segment {
+        0 => 0,
+        65_535 => 1,
+        _ => 2,
+    }
+}
+
 /// Says so if what was lent for reading only is not as it was.
 fn changed<T: PartialEq>(what: &str, before: &[T], after: &[T]) -> String {
     if before == after {
@@ -648,7 +728,14 @@ impl Compare {
         let mut compare = Compare {
             counts: [[0; NUMBERS]; FUNCTIONS.len()],
             found: [0; 2],
+            found_segments: [0; 3],
             placed: [0; 2],
+            placed_segments: [0; 4],
+            shared: [0; 4],
+            found_of_second: [0; 1],
+            swapped: [0; 3],
+            grouped: [0; 2],
+            no_segment: [0; 2],
             round_trips: [0; 3],
             rewritten: [0; 2],
             known: [0; 3],
@@ -662,6 +749,8 @@ impl Compare {
             own_record: [0; RECORD_ROOM],
             proved_record: [0; RECORD_ROOM],
             rival_record: [0; RECORD_ROOM],
+            own_point: [0; POINT_ROOM],
+            proved_point: [0; POINT_ROOM],
             own_reading: [0; READING_ROOM],
             proved_reading: [0; READING_ROOM],
             rival_reading: [0; READING_ROOM],
@@ -685,6 +774,8 @@ impl Compare {
         let mut rng = Rng::new(0x0B5E_55ED);
         for i in 0..TABLE_ROOM / FLAT_POINT {
             compare.before[0].push(7 * i as i32 - 1000);
+            // Never 0, so that an entry that keeps it is not taken for a cleared one.
+            compare.before[0].push(rng.from(1, 65_535));
             compare.before[0].extend_from_slice(&flat(&point_record(&mut rng)));
         }
         for _ in 0..TABLE_ROOM {
@@ -722,6 +813,15 @@ impl Compare {
         self.rival_record = self.own_record;
     }
 
+    fn fill_points(&mut self) {
+        let mut value = self.pattern;
+        for number in self.own_point.iter_mut() {
+            value = value.wrapping_add(0x9E37_79B9);
+            *number = value as i32;
+        }
+        self.proved_point = self.own_point;
+    }
+
     fn fill_readings(&mut self) {
         let mut value = self.pattern ^ 0x0FAC_7500;
         for number in self.own_reading.iter_mut() {
@@ -743,6 +843,33 @@ impl Compare {
 
     pub fn count_known(&mut self, place: Known) {
         self.known[place as usize] += 1;
+    }
+
+    /// A join and the one with its tracks swapped, whose points differ in this at some
+    /// number that both hold.
+    pub fn count_swapped(&mut self, differ: Differ) {
+        let at = match differ {
+            Differ::Nothing => 0,
+            Differ::Records | Differ::Both => 1,
+            Differ::Segments => 2,
+        };
+        self.swapped[at] += 1;
+    }
+
+    /// Both groupings of three tracks.
+    pub fn count_grouped(&mut self, refused: bool) {
+        self.grouped[refused as usize] += 1;
+    }
+
+    /// A lookup that gave a point of the second track, see `found_of_second`.
+    pub fn count_found_of_second(&mut self) {
+        self.found_of_second[0] += 1;
+    }
+
+    /// Lookups and joins that were refused because of a segment alone.
+    pub fn count_no_segment(&mut self, lookups: u64, joins: u64) {
+        self.no_segment[0] += lookups;
+        self.no_segment[1] += joins;
     }
 
     fn count(&mut self, function: Function, number: u32) {
@@ -1122,9 +1249,14 @@ impl Compare {
         text
     }
 
-    /// The flat record of the last reading or lookup that gave one.
+    /// The flat record of the last reading that gave one.
     pub fn record(&self) -> &[i32] {
         &self.own_record[AROUND..AROUND + FLAT]
+    }
+
+    /// The flat point of the last lookup, zeros if it found nothing.
+    pub fn in_force(&self) -> &[i32] {
+        &self.own_point[AROUND..AROUND + FLAT_POINT]
     }
 
     /// The bits read of the last reading.
@@ -1154,7 +1286,7 @@ impl Compare {
         self.own_single[1]
     }
 
-    /// The answers of a reading or a lookup, which alone has a single number.
+    /// The answers of a reading.
     fn answers(&self, own_number: u32, proved_number: u32) -> String {
         let mut text = format!("own:    result {}\n", own_number);
         if own_number == 0 {
@@ -1434,11 +1566,28 @@ impl Compare {
         }
     }
 
+    /// Whether a done placing left the point in the first entry, as it was given, or
+    /// with the flag 0 none.
+    fn is_placed(&self, record: &[i32], picture: i32, segment: u16) -> bool {
+        let point = &self.own_table[AROUND_TABLE..AROUND_TABLE + FLAT_POINT];
+        match self.single() {
+            0 => record[0] == 0,
+            1 => {
+                record[0] == 1
+                    && point[PICTURE] == picture
+                    && point[SEGMENT] == segment as i32
+                    && point[RECORD..] == *record
+            }
+            _ => false,
+        }
+    }
+
     /// Places a record of any length at a picture, in a table of any length.
     pub fn place_lent(
         &mut self,
         record: &[i32],
         picture: i32,
+        segment: u16,
         table_len: usize,
     ) -> (u32, Option<Track>) {
         self.next_case();
@@ -1449,18 +1598,24 @@ impl Compare {
         let own_number = own::place(
             record,
             picture,
+            segment,
             &mut self.own_table[lent.clone()],
             &mut self.own_single[1],
         );
         let proved_number = proved::place(
             &self.lent_record,
             picture,
+            segment,
             &mut self.proved_table[lent],
             &mut self.proved_single[1],
         );
         let mut difference = None;
         if own_number == proved_number && self.own_single == self.proved_single {
             difference = self.result_differs(own_number);
+            if own_number == 0 && !self.is_placed(record, picture, segment) {
+                let text = "  the first entry is not the point that was placed\n";
+                difference = Some(difference.unwrap_or_default() + text);
+            }
         }
         if own_number != proved_number
             || self.own_single != self.proved_single
@@ -1470,9 +1625,10 @@ impl Compare {
             self.fail(
                 FUNCTIONS[Function::Place as usize].1,
                 &format!(
-                    "record: {}\npicture {}, table of {} numbers",
+                    "record: {}\npicture {}, segment {}, table of {} numbers",
                     numbers(record),
                     picture,
+                    segment,
                     table_len
                 ),
                 &(self.table_answers(own_number, proved_number, difference)
@@ -1483,67 +1639,172 @@ impl Compare {
         if own_number != 0 {
             return (own_number, None);
         }
-        self.placed[self.single() as usize] += 1;
+        let has_point = self.single() == 1;
+        self.placed[has_point as usize] += 1;
+        if has_point {
+            self.placed_segments[which_segment(segment as i32)] += 1;
+        } else if segment != 0 {
+            self.placed_segments[3] += 1;
+        }
         (0, Some(self.result_track()))
     }
 
-    pub fn place(&mut self, record: &[i32], picture: i32) -> (u32, Option<Track>) {
-        self.place_lent(record, picture, FLAT_TABLE)
+    pub fn place(&mut self, record: &[i32], picture: i32, segment: u16) -> (u32, Option<Track>) {
+        self.place_lent(record, picture, segment, FLAT_TABLE)
     }
 
     pub fn lookup(&mut self, table: &Table, count: usize, picture: i32) -> u32 {
-        self.lookup_lent(table, count, picture, FLAT)
+        self.lookup_lent(table, count, picture, FLAT_POINT)
     }
 
-    /// Looks up in a table of any length, into a record of any length.
+    /// Looks up in a table of any length, into a point of any length.
     pub fn lookup_lent(
         &mut self,
         table: &Table,
         count: usize,
         picture: i32,
-        record_len: usize,
+        point_len: usize,
     ) -> u32 {
         self.next_case();
-        self.fill_records();
+        self.fill_points();
+        let mut point_after = self.own_point;
         self.lent_a.clear();
         self.lent_a.extend_from_slice(&table.numbers);
-        let lent = AROUND..AROUND + record_len;
+        let lent = AROUND..AROUND + point_len;
         let own_number = own::lookup(
             &table.numbers,
             count,
             picture,
-            &mut self.own_record[lent.clone()],
+            &mut self.own_point[lent.clone()],
             &mut self.own_single[1],
         );
         let proved_number = proved::lookup(
             &self.lent_a,
             count,
             picture,
-            &mut self.proved_record[lent],
+            &mut self.proved_point[lent.clone()],
             &mut self.proved_single[1],
         );
+        // What the point must hold, whoever is asked: the numbers that stand in the
+        // table, zeros where nothing is in force, and after a refusal what it held.
+        let mut found = self.single();
+        if own_number == 0 {
+            let at = (0..count).rev().find(|&i| table.picture(i) <= picture);
+            found = at.is_some() as u32;
+            match at {
+                Some(at) => point_after[lent].copy_from_slice(table.row(at)),
+                None => point_after[lent].fill(0),
+            }
+        }
         if own_number != proved_number
-            || self.own_record != self.proved_record
+            || self.own_point != self.proved_point
+            || self.own_point != point_after
             || self.own_single != self.proved_single
+            || self.single() != found
             || self.lent_a != table.numbers
         {
             self.fail(
                 FUNCTIONS[Function::Lookup as usize].1,
                 &format!(
-                    "picture {}, record lent with length {}\ntable: {}",
+                    "picture {}, point lent with length {}\ntable: {}",
                     picture,
-                    record_len,
+                    point_len,
                     points(&table.numbers, count)
                 ),
-                &(self.answers(own_number, proved_number)
+                &(self.lookup_answers(own_number, proved_number, &point_after)
                     + &changed("the table", &table.numbers, &self.lent_a)),
             );
         }
         self.count(Function::Lookup, own_number);
         if own_number == 0 {
-            self.found[self.single() as usize] += 1;
+            self.found[found as usize] += 1;
+        }
+        if own_number == 0 && found == 1 {
+            self.found_segments[which_segment(self.in_force()[SEGMENT])] += 1;
         }
         own_number
+    }
+
+    fn lookup_answers(
+        &self,
+        own_number: u32,
+        proved_number: u32,
+        after: &[i32; POINT_ROOM],
+    ) -> String {
+        let mut text = String::new();
+        for (name, number, single, lent) in [
+            ("own:   ", own_number, self.own_single, &self.own_point),
+            (
+                "proved:",
+                proved_number,
+                self.proved_single,
+                &self.proved_point,
+            ),
+        ] {
+            text.push_str(&format!("{} result {}", name, number));
+            if number == 0 {
+                let lent = &lent[AROUND..AROUND + FLAT_POINT];
+                text.push_str(&format!(", found {}, point {}", single[1], point(lent)));
+            }
+            text.push('\n');
+        }
+        if self.own_point != *after {
+            text.push_str("  the point is not the one in force, zeros, or as it was\n");
+        }
+        text.push_str(&first_difference(
+            "point",
+            AROUND,
+            &self.own_point,
+            &self.proved_point,
+        ));
+        text.push_str(&first_difference(
+            "found",
+            1,
+            &self.own_single,
+            &self.proved_single,
+        ));
+        text
+    }
+
+    /// The numbers that both tracks of a done join hold, by `Differ`, or none where its
+    /// points are not theirs: each the next of the first or of the second, whole, and
+    /// the second's where both have it.
+    fn shared_of_join(
+        &self,
+        (a, a_count): (&Table, usize),
+        (b, b_count): (&Table, usize),
+    ) -> Option<[u64; 4]> {
+        let result = &self.own_table[AROUND_TABLE..AROUND_TABLE + FLAT_TABLE];
+        let count = self.single() as usize;
+        let mut shared = [0; 4];
+        let (mut of_a, mut of_b) = (0, 0);
+        let mut last = None;
+        for row in result.chunks_exact(FLAT_POINT).take(count) {
+            let picture = row[PICTURE];
+            let in_a = of_a < a_count && a.picture(of_a) == picture;
+            let in_b = of_b < b_count && b.picture(of_b) == picture;
+            let from = match (in_a, in_b) {
+                (_, true) => b.row(of_b),
+                (true, false) => a.row(of_a),
+                (false, false) => return None,
+            };
+            if *row != *from || last >= Some(picture) {
+                return None;
+            }
+            if in_a && in_b {
+                let records = a.row(of_a)[RECORD..] != b.row(of_b)[RECORD..];
+                let segments = a.segment(of_a) != b.segment(of_b);
+                shared[Differ::of(records, segments) as usize] += 1;
+            }
+            of_a += in_a as usize;
+            of_b += in_b as usize;
+            last = Some(picture);
+        }
+        if of_a == a_count && of_b == b_count {
+            Some(shared)
+        } else {
+            None
+        }
     }
 
     pub fn join(&mut self, a: &Track, b: &Track) -> (u32, Option<Track>) {
@@ -1583,8 +1844,18 @@ impl Compare {
             &mut self.proved_single[1],
         );
         let mut difference = None;
+        let mut shared = [0; 4];
         if own_number == proved_number && self.own_single == self.proved_single {
             difference = self.result_differs(own_number);
+            if own_number == 0 {
+                match self.shared_of_join((a, a_count), (b, b_count)) {
+                    Some(numbers) => shared = numbers,
+                    None => {
+                        let text = "  the points are not those of the two tracks\n";
+                        difference = Some(difference.unwrap_or_default() + text);
+                    }
+                }
+            }
         }
         if own_number != proved_number
             || self.own_single != self.proved_single
@@ -1608,6 +1879,9 @@ impl Compare {
         self.count(Function::Join, own_number);
         if own_number != 0 {
             return (own_number, None);
+        }
+        for (count, numbers) in self.shared.iter_mut().zip(shared) {
+            *count += numbers;
         }
         (0, Some(self.result_track()))
     }
@@ -1640,7 +1914,7 @@ impl Compare {
             println!("  {:<14}{}", name, text);
         }
         println!(
-            "  lookups with answer 0: {} nothing, {} a record",
+            "  lookups with answer 0: {} nothing, {} a point",
             self.found[0], self.found[1]
         );
         println!(
@@ -1660,9 +1934,17 @@ impl Compare {
              {} in units",
             self.known[0], self.known[1], self.known[2]
         );
+        self.report_segments();
         for count in [
             &self.found[..],
+            &self.found_segments,
             &self.placed,
+            &self.placed_segments,
+            &self.shared,
+            &self.found_of_second,
+            &self.swapped,
+            &self.grouped,
+            &self.no_segment,
             &self.round_trips,
             &self.rewritten,
             &self.known,
@@ -1672,6 +1954,45 @@ impl Compare {
             }
         }
         complete & self.report_texts()
+    }
+
+    /// Prints how often segments were given and met, and what they decided.
+    fn report_segments(&self) {
+        println!(
+            "  segments of placed points: {} 0, {} 65,535, {} others; {} empty tracks with \
+             another than 0",
+            self.placed_segments[0],
+            self.placed_segments[1],
+            self.placed_segments[2],
+            self.placed_segments[3]
+        );
+        println!(
+            "  segments that lookups gave: {} 0, {} 65,535, {} others",
+            self.found_segments[0], self.found_segments[1], self.found_segments[2]
+        );
+        println!(
+            "  numbers that both tracks of a join held: {} with equal points, {} with equal \
+             records and other segments, {} with other records and equal segments, {} with \
+             both other",
+            self.shared[0], self.shared[1], self.shared[2], self.shared[3]
+        );
+        println!(
+            "  lookups there that gave the second's segment, where the records were equal: {}",
+            self.found_of_second[0]
+        );
+        println!(
+            "  joins and their swappings: {} the same track, {} another by a record, {} another \
+             by segments alone",
+            self.swapped[0], self.swapped[1], self.swapped[2]
+        );
+        println!(
+            "  groupings of three tracks: {} the same track both ways, {} refused both ways",
+            self.grouped[0], self.grouped[1]
+        );
+        println!(
+            "  refused with 16 because of a segment alone: {} lookups, {} joins",
+            self.no_segment[0], self.no_segment[1]
+        );
     }
 
     /// Prints how often the texts named each element, and how often they had each form.

@@ -1357,3 +1357,51 @@ pub fn pictures(rng: &mut Rng, n: usize) -> Vec<i32> {
     numbers.sort_unstable();
     numbers
 }
+
+// --------------------------------------------------------- segment numbers
+
+/// A segment number; 0, 1 and 65,535 more often than by chance.
+pub fn segment(rng: &mut Rng) -> u16 {
+    match rng.below(8) {
+        0 => 0,
+        1 => 1,
+        2 => u16::MAX,
+        3 => rng.from(0, 20) as u16,
+        _ => rng.next() as u16,
+    }
+}
+
+/// Another segment number, often one that differs in one bit.
+pub fn other_segment(rng: &mut Rng, segment: u16) -> u16 {
+    match rng.below(4) {
+        0 if segment != 0 => 0,
+        1 => segment.wrapping_add(rng.pick(&[1, u16::MAX])),
+        2 => segment ^ rng.from(1, 65_535) as u16,
+        _ => segment ^ (1 << rng.below(16)),
+    }
+}
+
+/// Numbers that are no segment's: below 0, above 65,535, and such as look like one in
+/// their low 16 bits.
+pub const NO_SEGMENTS: [i32; 10] = [
+    -1,
+    65_536,
+    65_536 + 5,
+    131_071,
+    -65_536,
+    -65_535,
+    1 << 30,
+    i32::MIN,
+    i32::MIN + 7,
+    i32::MAX,
+];
+
+/// A number that is no segment's. Some have this segment in their low 16 bits.
+pub fn no_segment(rng: &mut Rng, segment: u16) -> i32 {
+    match rng.below(4) {
+        0 => rng.pick(&NO_SEGMENTS),
+        1 => rng.from(65_536, i32::MAX),
+        2 => rng.from(i32::MIN, -1),
+        _ => with_same_low_bits(rng, segment as i32, 16),
+    }
+}

@@ -21,6 +21,7 @@ mod record;
 mod reserved;
 mod rival;
 mod runs;
+mod segments;
 mod shader;
 mod track;
 mod unit;
@@ -167,12 +168,17 @@ fn compare_all(rounds: u64) -> c_int {
         runs::full_tracks(&mut compare, round);
         let tables = runs::flat_points(&mut compare, round);
         let pairs = runs::tracks(&mut compare, round, JOINS_AND_LOOKUPS);
+        let threes = segments::threes(&mut compare, round);
+        let without = segments::without_segments(&mut compare, round);
         println!(
-            "round {}: {} joins and lookups over {} pairs of tracks and {} tables of made points",
+            "round {}: {} joins and lookups over {} pairs of tracks, {} tables of made points, \
+             {} threes of tracks that share numbers and {} tables without a segment",
             round,
             compare.joins_and_lookups() - before,
             pairs,
-            tables
+            tables,
+            threes,
+            without
         );
     }
     if !compare.report() {

@@ -5,16 +5,17 @@
 //!
 //! Two rules belong to that interface and not to 01. An argument of a wrong
 //! length is refused with 13 before everything else: a record, the facts of a
-//! reading, a block, the bits of the shader numbers, and every table, so that 16
-//! is never the answer to a table's length. A flat record that names no record is
-//! treated as one that is not valid, in a point too. The lengths of the bytes to
-//! be written are 01's business and keep 01's order (14 before 13).
+//! reading, a block, the bits of the shader numbers, a point, and every table, so that
+//! 16 is never the answer to a table's length. A flat record that names no record is
+//! treated as one that is not valid, in a point too, and a flat point whose segment is
+//! none, below 0 or above 65,535, as one whose record is not valid. The lengths of the
+//! bytes to be written are 01's business and keep 01's order (14 before 13).
 
 use crate::reader::{self, Reading, Refusal};
 use crate::record::{block_from_flat, from_flat, to_flat, FLAT, FLAT_BLOCK};
 use crate::rival;
 use crate::shader;
-use crate::track::{self, point_from_flat, table_to_flat, Point};
+use crate::track::{self, point_from_flat, point_to_flat, table_to_flat, Point};
 use crate::track::{CLEARED, FLAT_POINT, FLAT_TABLE, POINTS};
 use crate::unit;
 use crate::why::{self, Told};
@@ -202,7 +203,7 @@ pub fn shader(block: &[i32], bits: &mut [u32]) -> u32 {
 }
 
 /// The table whose points inside the count are these, or none if one of them
-/// has numbers that name no record. What lies past the count is not looked at.
+/// has numbers that name no point. What lies past the count is not looked at.
 fn points(table: &[i32], count: usize) -> Option<Vec<Point>> {
     let mut points = vec![CLEARED; POINTS];
     for (i, point) in points.iter_mut().enumerate().take(count) {
@@ -226,29 +227,37 @@ fn give_table(
 }
 
 #[inline(never)]
-pub fn place(record: &[i32], picture: i32, table: &mut [i32], count: &mut u32) -> u32 {
+pub fn place(
+    record: &[i32],
+    picture: i32,
+    segment: u16,
+    table: &mut [i32],
+    count: &mut u32,
+) -> u32 {
     if record.len() != FLAT || table.len() != FLAT_TABLE {
         return 13;
     }
     let mut made = vec![CLEARED; POINTS];
     match from_flat(record) {
         Some(named) => {
-            let answer = track::place(&named, picture, &mut made);
+            let answer = track::place(&named, picture, segment, &mut made);
             give_table(answer, &made, table, count)
         }
         None => 14,
     }
 }
 
+/// The point in force, or zeros where nothing is: its picture is the start, and "lookup
+/// gives [the segment], 0 with nothing" (02, g).
 #[inline(never)]
 pub fn lookup(
     table: &[i32],
     count: usize,
     picture: i32,
-    record: &mut [i32],
+    point: &mut [i32],
     found: &mut u32,
 ) -> u32 {
-    if record.len() != FLAT || table.len() != FLAT_TABLE {
+    if point.len() != FLAT_POINT || table.len() != FLAT_TABLE {
         return 13;
     }
     let table = match points(table, count) {
@@ -257,11 +266,12 @@ pub fn lookup(
     };
     match track::lookup(&table, count, picture) {
         Ok(Some(in_force)) => {
-            to_flat(in_force, record);
+            point_to_flat(in_force, point);
             *found = 1;
             0
         }
         Ok(None) => {
+            point_to_flat(&CLEARED, point);
             *found = 0;
             0
         }

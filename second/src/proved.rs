@@ -59,6 +59,7 @@ extern "C" {
         record: *const i32,
         record_len: usize,
         picture: i32,
+        segment: u16,
         table: *mut i32,
         table_len: usize,
         count: *mut u32,
@@ -68,8 +69,8 @@ extern "C" {
         table_len: usize,
         count: usize,
         picture: i32,
-        record: *mut i32,
-        record_len: usize,
+        point: *mut i32,
+        point_len: usize,
         found: *mut u32,
     ) -> u32;
     fn pim_join(
@@ -180,12 +181,19 @@ pub fn shader(block: &[i32], bits: &mut [u32]) -> u32 {
     unsafe { pim_shader(block.as_ptr(), block.len(), bits.as_mut_ptr(), bits.len()) }
 }
 
-pub fn place(record: &[i32], picture: i32, table: &mut [i32], count: &mut u32) -> u32 {
+pub fn place(
+    record: &[i32],
+    picture: i32,
+    segment: u16,
+    table: &mut [i32],
+    count: &mut u32,
+) -> u32 {
     unsafe {
         pim_place(
             record.as_ptr(),
             record.len(),
             picture,
+            segment,
             table.as_mut_ptr(),
             table.len(),
             count,
@@ -197,7 +205,7 @@ pub fn lookup(
     table: &[i32],
     count: usize,
     picture: i32,
-    record: &mut [i32],
+    point: &mut [i32],
     found: &mut u32,
 ) -> u32 {
     unsafe {
@@ -206,8 +214,8 @@ pub fn lookup(
             table.len(),
             count,
             picture,
-            record.as_mut_ptr(),
-            record.len(),
+            point.as_mut_ptr(),
+            point.len(),
             found,
         )
     }

@@ -171,7 +171,7 @@ pub const FLAT: usize = 2 + PLACES * FLAT_BLOCK;
 /// order; numbers that the level does not use are 0.
 pub const FLAT_BLOCK: usize = 8;
 
-fn as_u16(number: i32) -> Option<u16> {
+pub fn as_u16(number: i32) -> Option<u16> {
     if (0..=65_535).contains(&number) {
         Some(number as u16)
     } else {

@@ -1,9 +1,9 @@
 //! The parts of a run: which inputs are compared, and how many.
 
-use crate::compare::{hex, Compare, Known, Table, Track};
+use crate::compare::{hex, Compare, Differ, Known, Table, Track};
 use crate::made::{
-    flat_record, payload, pictures, point_record, wrapped, FlatKind, Kind, Rng, WrapperKind,
-    FLAT_KINDS, KINDS, WRAPPER_KINDS,
+    flat_record, no_segment, other_segment, payload, pictures, point_record, segment, wrapped,
+    FlatKind, Kind, Rng, WrapperKind, FLAT_KINDS, KINDS, WRAPPER_KINDS,
 };
 use crate::own::{facts_of, READING};
 use crate::plan::{Answer, Payload};
@@ -11,9 +11,15 @@ use crate::reader::{Refusal, WRAPPER};
 use crate::record::{flat, EMPTY, FLAT, FLAT_BLOCK};
 use crate::track::{FLAT_POINT, FLAT_TABLE, POINTS};
 use crate::why::Element;
+use std::collections::BTreeMap;
 
 /// The lengths that are wrong for a flat record.
 pub const WRONG_RECORD_LENGTHS: [usize; 5] = [0, 1, 145, 147, 292];
+
+/// The lengths that are wrong for a flat point: nothing, a number, a record without
+/// picture and segment, as before 02's request g, a number too many, and two points.
+const WRONG_POINT_LENGTHS: [usize; 6] =
+    [0, 1, FLAT, FLAT_POINT - 1, FLAT_POINT + 1, 2 * FLAT_POINT];
 
 /// Lengths of a flat record and of the facts of a reading of which one, or both,
 /// is wrong.
@@ -39,9 +45,9 @@ pub const WRONG_READ_LENGTHS: [(usize, usize); 16] = [
 ];
 
 /// The lengths that are wrong for a table: a number or a point too few or too
-/// many, nothing, one point, 63 points and one number, and the number of points
-/// taken for the length.
-const WRONG_TABLE_LENGTHS: [usize; 8] = [
+/// many, nothing, one point, 63 points and one number, the number of points taken
+/// for the length, and 64 points without their segments.
+const WRONG_TABLE_LENGTHS: [usize; 9] = [
     FLAT_TABLE - 1,
     FLAT_TABLE + 1,
     0,
@@ -50,6 +56,7 @@ const WRONG_TABLE_LENGTHS: [usize; 8] = [
     63 * FLAT_POINT + 1,
     65 * FLAT_POINT,
     POINTS,
+    POINTS * (FLAT_POINT - 1),
 ];
 
 /// Every part has its own stream of made inputs, and every round continues
@@ -456,7 +463,8 @@ pub fn placings(compare: &mut Compare, round: u64) -> u64 {
                 2 => rng.from(-2, 2),
                 _ => rng.next() as i32,
             };
-            let number = compare.place(&record, picture).0;
+            let segment = segment(&mut rng);
+            let number = compare.place(&record, picture, segment).0;
             cases += 1;
             match kind.certain() {
                 Some(true) => meant(compare, number, 0),
@@ -466,7 +474,7 @@ pub fn placings(compare: &mut Compare, round: u64) -> u64 {
             if i % 16 == 0 {
                 // The wrong lengths come before everything else.
                 for table_len in WRONG_TABLE_LENGTHS {
-                    let number = compare.place_lent(&record, picture, table_len).0;
+                    let number = compare.place_lent(&record, picture, segment, table_len).0;
                     meant(compare, number, 13);
                     cases += 1;
                 }
@@ -474,7 +482,7 @@ pub fn placings(compare: &mut Compare, round: u64) -> u64 {
                     let mut other = [record, record].concat();
                     other.truncate(length);
                     let table_len = rng.pick(&[63, 64, 64, 65]) * FLAT_POINT;
-                    let number = compare.place_lent(&other, picture, table_len).0;
+                    let number = compare.place_lent(&other, picture, segment, table_len).0;
                     meant(compare, number, 13);
                     cases += 1;
                 }
@@ -485,20 +493,114 @@ pub fn placings(compare: &mut Compare, round: u64) -> u64 {
 }
 
 /// A point that is still to be placed.
-type Loose = (i32, [i32; FLAT]);
+#[derive(Clone, Copy)]
+pub struct Loose {
+    pub picture: i32,
+    pub segment: u16,
+    pub record: [i32; FLAT],
+}
+
+impl Loose {
+    pub fn made(rng: &mut Rng, picture: i32) -> Loose {
+        Loose {
+            picture,
+            segment: segment(rng),
+            record: flat(&point_record(rng)),
+        }
+    }
+
+    /// Another point at the same picture.
+    pub fn other(&self, rng: &mut Rng, records: bool, segments: bool) -> Loose {
+        let mut other = *self;
+        while records && other.record == self.record {
+            other.record = flat(&point_record(rng));
+        }
+        if segments {
+            other.segment = other_segment(rng, self.segment);
+        }
+        other
+    }
+}
+
+/// The track of the points of all these lists, the last one's where several hold the
+/// number, written by hand; or none if there are more than 64 numbers.
+pub fn in_one(lists: &[&[Loose]]) -> Option<Track> {
+    let mut points: BTreeMap<i32, &Loose> = BTreeMap::new();
+    for point in lists.iter().copied().flatten() {
+        points.insert(point.picture, point);
+    }
+    if points.len() > POINTS {
+        return None;
+    }
+    let mut track = Track::empty();
+    track.count = points.len();
+    for (at, (&picture, point)) in points.iter().enumerate() {
+        let segment = point.segment as i32;
+        track.table.set(at, picture, segment, &point.record);
+    }
+    Some(track)
+}
+
+/// In what the points of two lists differ at the numbers that both hold.
+fn differ(a: &[Loose], b: &[Loose]) -> Differ {
+    let mut records = false;
+    let mut segments = false;
+    for point in a {
+        for other in b.iter().filter(|other| other.picture == point.picture) {
+            records |= other.record != point.record;
+            segments |= other.segment != point.segment;
+        }
+    }
+    Differ::of(records, segments)
+}
+
+/// Joins the tracks of two lists both ways, and gives the join if it fits: both answers
+/// are those of the lists, and alike or not as their points are.
+pub fn swapping(
+    compare: &mut Compare,
+    (a, b): (&Track, &Track),
+    (a_loose, b_loose): (&[Loose], &[Loose]),
+) -> Option<Track> {
+    let (number, joined) = compare.join(a, b);
+    let (swapped_number, swapped) = compare.join(b, a);
+    let differ = differ(a_loose, b_loose);
+    let in_order = in_one(&[a_loose, b_loose]);
+    let meant = if in_order.is_some() { 0 } else { 15 };
+    let mut as_meant = number == meant
+        && swapped_number == meant
+        && joined == in_order
+        && swapped == in_one(&[b_loose, a_loose]);
+    if joined.is_some() {
+        // "If a join fits, swapping its two tracks gives the same track exactly
+        // when both hold equal records at every number that they share", which reads
+        // number, record and segment since 02's request g.
+        as_meant &= (joined == swapped) == (differ == Differ::Nothing);
+        compare.count_swapped(differ);
+    }
+    if !as_meant {
+        compare.fail(
+            "both implementations join otherwise than the tracks were meant",
+            &format!("{} points and {}", a.count, b.count),
+            &format!("both: {}, swapped {}", number, swapped_number),
+        );
+    }
+    joined
+}
 
 /// A track of these points, made by joining placed points, two and two.
-fn build(compare: &mut Compare, rng: &mut Rng, loose: &[Loose]) -> Track {
+pub fn build(compare: &mut Compare, rng: &mut Rng, loose: &[Loose]) -> Track {
     let mut order = loose.to_vec();
     if rng.one_in(2) {
         rng.shuffle(&mut order);
     }
     let mut tracks: Vec<Track> = Vec::new();
-    for (picture, record) in &order {
-        tracks.push(compare.place(record, *picture).1.unwrap());
+    for point in &order {
+        let placed = compare.place(&point.record, point.picture, point.segment);
+        tracks.push(placed.1.unwrap());
     }
     if tracks.is_empty() {
-        return compare.place(&flat(&EMPTY), 0).1.unwrap();
+        let segment = segment(rng);
+        return compare.place(&flat(&EMPTY), 0, segment).1.unwrap();
     }
     while tracks.len() > 1 {
         let mut joined = Vec::new();
@@ -514,7 +616,7 @@ fn build(compare: &mut Compare, rng: &mut Rng, loose: &[Loose]) -> Track {
 }
 
 /// Lookups around a point, at the ends of i32, and anywhere.
-fn look_around(compare: &mut Compare, rng: &mut Rng, track: &Track, times: usize) {
+pub fn look_around(compare: &mut Compare, rng: &mut Rng, track: &Track, times: usize) {
     for _ in 0..times {
         let near = if track.count > 0 && !rng.one_in(4) {
             let number = track.table.picture(rng.below(track.count));
@@ -571,51 +673,27 @@ fn pair_of_tracks(compare: &mut Compare, rng: &mut Rng, forty: bool) {
     let mut a_loose: Vec<Loose> = Vec::new();
     let mut b_loose: Vec<Loose> = Vec::new();
     let equal_records = rng.one_in(3);
-    let mut shared_differ = false;
+    let equal_segments = rng.one_in(3);
     for (i, &place) in places.iter().enumerate() {
-        let record = flat(&point_record(rng));
+        let point = Loose::made(rng, numbers[place]);
         if i < a_count {
-            a_loose.push((numbers[place], record));
+            a_loose.push(point);
         }
         if i >= a_count {
-            b_loose.push((numbers[place], record));
+            b_loose.push(point);
         } else if i < shared {
-            let other = if equal_records || rng.one_in(2) {
-                record
-            } else {
-                flat(&point_record(rng))
-            };
-            shared_differ |= other != record;
-            b_loose.push((numbers[place], other));
+            let other_record = !equal_records && rng.one_in(2);
+            let other_segment = !equal_segments && rng.one_in(2);
+            b_loose.push(point.other(rng, other_record, other_segment));
         }
     }
-    a_loose.sort_unstable_by_key(|point| point.0);
-    b_loose.sort_unstable_by_key(|point| point.0);
+    a_loose.sort_unstable_by_key(|point| point.picture);
+    b_loose.sort_unstable_by_key(|point| point.picture);
     let a = build(compare, rng, &a_loose);
     let b = build(compare, rng, &b_loose);
     let empty = Track::empty();
 
-    let (number, joined) = compare.join(&a, &b);
-    let (swapped_number, swapped) = compare.join(&b, &a);
-    let fits = a_count + only_b <= POINTS;
-    let meant = if fits { 0 } else { 15 };
-    let mut as_meant = number == meant && swapped_number == meant;
-    if let (Some(joined), Some(swapped)) = (&joined, &swapped) {
-        // "If a join fits, swapping its two tracks gives the same track exactly
-        // when both hold equal records at every number that they share."
-        let same = joined.table == swapped.table && joined.count == swapped.count;
-        as_meant &= same != shared_differ && joined.count == a_count + only_b;
-    }
-    if !as_meant {
-        compare.fail(
-            "both implementations join otherwise than the tracks were meant",
-            &format!(
-                "{} points, {} more in the second, {} shared",
-                a_count, only_b, shared
-            ),
-            &format!("both: {}, swapped {}", number, swapped_number),
-        );
-    }
+    let joined = swapping(compare, (&a, &b), (&a_loose, &b_loose));
     compare.join(&a, &a);
     compare.join(&a, &empty);
     compare.join(&empty, &b);
@@ -637,9 +715,12 @@ fn pair_of_tracks(compare: &mut Compare, rng: &mut Rng, forty: bool) {
 /// Arguments and tables of a wrong length, and counts above 64.
 fn wrong_lengths(compare: &mut Compare, rng: &mut Rng, a: &Track, b: &Track) {
     let picture = rng.next() as i32;
-    let record_len = rng.pick(&WRONG_RECORD_LENGTHS);
-    for count in [a.count, 65] {
-        let number = compare.lookup_lent(&a.table, count, picture, record_len);
+    // The first point has no segment, which comes after the length.
+    let mut worse = a.table.clone();
+    worse.set_segment(0, no_segment(rng, 0));
+    let point_len = rng.pick(&WRONG_POINT_LENGTHS);
+    for (table, count) in [(&a.table, a.count), (&a.table, 65), (&worse, a.count)] {
+        let number = compare.lookup_lent(table, count, picture, point_len);
         meant(compare, number, 13);
     }
     for table_len in WRONG_TABLE_LENGTHS {
@@ -664,7 +745,7 @@ fn wrong_lengths(compare: &mut Compare, rng: &mut Rng, a: &Track, b: &Track) {
         let b_count = rng.pick(&[b.count.min(entries), b.count.min(entries), 65]);
         let mut answers = vec![
             compare.lookup(&a_wrong, a_count, picture),
-            compare.lookup_lent(&a_wrong, a_count, picture, 147),
+            compare.lookup_lent(&a_wrong, a_count, picture, point_len),
         ];
         for (first, first_count, second, second_count) in [
             (&a_wrong, a_count, &b.table, b.count),
@@ -727,8 +808,8 @@ fn points_past_the_count(compare: &mut Compare, rng: &mut Rng, a: &Track, b: &Tr
     look_around(compare, rng, &a_more, 2);
 }
 
-/// Points out of order, twice the same number, or a cleared entry inside the
-/// count: not a track any more (unless the damage changes nothing).
+/// Points out of order, twice the same number, a cleared entry or one without a segment
+/// inside the count: not a track any more (unless the damage changes nothing).
 fn damaged(compare: &mut Compare, rng: &mut Rng, a: &Track, b: &Track) {
     if a.count == 0 {
         return;
@@ -742,7 +823,7 @@ fn damaged(compare: &mut Compare, rng: &mut Rng, a: &Track, b: &Track) {
     let zero_rises = (0..a.count)
         .position(|i| a.table.picture(i) >= 0)
         .unwrap_or(a.count - 1);
-    match rng.below(5) {
+    match rng.below(6) {
         0 => {
             let other = rng.below(a.count);
             worse.table.swap(at, other);
@@ -754,6 +835,7 @@ fn damaged(compare: &mut Compare, rng: &mut Rng, a: &Track, b: &Track) {
         2 if b.count > 0 => worse.table.copy(at, &b.table, rng.below(b.count)),
         // Where picture 0 keeps the numbers rising, only the record is wrong.
         3 => worse.table.clear(zero_rises),
+        4 => worse.table.set_segment(at, no_segment(rng, 0)),
         _ => worse.table.clear(at),
     }
     look_around(compare, rng, &worse, 2);
@@ -789,7 +871,7 @@ pub fn full_tracks(compare: &mut Compare, round: u64) {
         }
         let loose: Vec<Loose> = numbers
             .iter()
-            .map(|&number| (number, flat(&point_record(&mut rng))))
+            .map(|&number| Loose::made(&mut rng, number))
             .collect();
         let full = build(compare, &mut rng, &loose);
         let last = numbers[POINTS - 1];
@@ -805,7 +887,8 @@ pub fn full_tracks(compare: &mut Compare, round: u64) {
             i32::MAX,
         ] {
             let record = flat(&point_record(&mut rng));
-            let one = compare.place(&record, extra).1.unwrap();
+            let segment = segment(&mut rng);
+            let one = compare.place(&record, extra, segment).1.unwrap();
             compare.join(&full, &one);
             compare.join(&one, &full);
             compare.lookup(&full.table, full.count, extra);
@@ -835,7 +918,7 @@ fn by_hand(rng: &mut Rng, numbers: &[i32]) -> Track {
     let mut track = Track::empty();
     for (at, &number) in numbers.iter().enumerate() {
         let record = flat(&point_record(rng));
-        track.table.set(at, number, &record);
+        track.table.set(at, number, segment(rng) as i32, &record);
     }
     track.count = numbers.len();
     track
@@ -857,14 +940,7 @@ pub fn flat_points(compare: &mut Compare, round: u64) -> u64 {
                 _ => rng.from(1, 40) as usize,
             };
             let b_count = rng.below(POINTS + 1 - a_count.min(40));
-            let numbers = pictures(&mut rng, a_count + b_count);
-            let mut places: Vec<usize> = (0..numbers.len()).collect();
-            rng.shuffle(&mut places);
-            places[..a_count].sort_unstable();
-            places[a_count..].sort_unstable();
-            let numbers: Vec<i32> = places.iter().map(|&place| numbers[place]).collect();
-            let a = by_hand(&mut rng, &numbers[..a_count]);
-            let b = by_hand(&mut rng, &numbers[a_count..]);
+            let (a, b) = two_by_hand(&mut rng, a_count, b_count);
             let at = match i / 4 % 4 {
                 0 => 0,
                 1 => a_count - 1,
@@ -875,7 +951,15 @@ pub fn flat_points(compare: &mut Compare, round: u64) -> u64 {
             } else {
                 flat_record(kind, &mut rng)
             };
-            inside_the_count(compare, &mut rng, (&a, &b), at, &record, kind);
+            let mut worse = a.clone();
+            worse.table.set_record(at, &record);
+            // A record with the flag 0 stands at no point, valid or not.
+            let is_track = if record[0] == 0 {
+                Some(false)
+            } else {
+                kind.certain()
+            };
+            inside_the_count(compare, &mut rng, (&a, &b), at, &worse, is_track);
             past_the_count(compare, &mut rng, &a, &b, kind);
             tables += 1;
         }
@@ -883,40 +967,55 @@ pub fn flat_points(compare: &mut Compare, round: u64) -> u64 {
     tables
 }
 
-/// The record stands at a point of the first track.
-fn inside_the_count(
+/// Two tracks without a number that both hold, written by hand.
+pub fn two_by_hand(rng: &mut Rng, a_count: usize, b_count: usize) -> (Track, Track) {
+    let numbers = pictures(rng, a_count + b_count);
+    let mut places: Vec<usize> = (0..numbers.len()).collect();
+    rng.shuffle(&mut places);
+    places[..a_count].sort_unstable();
+    places[a_count..].sort_unstable();
+    let numbers: Vec<i32> = places.iter().map(|&place| numbers[place]).collect();
+    let a = by_hand(rng, &numbers[..a_count]);
+    let b = by_hand(rng, &numbers[a_count..]);
+    (a, b)
+}
+
+/// The first track with another record or segment at a point. Whether it is a track
+/// still may be known. Gives the numbers of lookups and joins that are refused if not.
+pub fn inside_the_count(
     compare: &mut Compare,
     rng: &mut Rng,
     (a, b): (&Track, &Track),
     at: usize,
-    record: &[i32; FLAT],
-    kind: FlatKind,
-) {
-    let mut worse = a.clone();
-    worse.table.set_record(at, record);
+    worse: &Track,
+    is_track: Option<bool>,
+) -> (u64, u64) {
     let number = a.table.picture(at);
     let mut answers = Vec::new();
     for picture in [i32::MIN, number.saturating_sub(1), number, i32::MAX] {
         answers.push(compare.lookup(&worse.table, worse.count, picture));
     }
+    let lookups = answers.len() as u64;
     let empty = Track::empty();
-    for other in [b, a, &worse, &empty] {
-        answers.push(compare.join(&worse, other).0);
-        answers.push(compare.join(other, &worse).0);
+    for other in [b, a, worse, &empty] {
+        answers.push(compare.join(worse, other).0);
+        answers.push(compare.join(other, worse).0);
     }
-    // A record with the flag 0 stands at no point, valid or not.
-    if record[0] == 0 || kind.certain() == Some(false) {
+    let joins = answers.len() as u64 - lookups;
+    if is_track == Some(false) {
         for number in answers {
             meant(compare, number, 16);
         }
-    } else if kind == FlatKind::Valid && answers.contains(&16) {
+    } else if is_track == Some(true) && answers.contains(&16) {
         meant(compare, 16, 0);
     }
     // Where the count ends before it, it is ignored.
     let mut shorter = a.clone();
+    let mut worse = worse.clone();
     shorter.count = at;
     worse.count = at;
     same_answers(compare, rng, (&shorter, b), (&worse, b));
+    (lookups, joins)
 }
 
 /// Records of the kind, and numbers at random, stand past the counts.
@@ -937,15 +1036,20 @@ fn past_the_count(compare: &mut Compare, rng: &mut Rng, a: &Track, b: &Track, ki
                 1 => a.table.picture(rng.below(a.count)),
                 _ => rng.next() as i32,
             };
-            track.table.set(at, picture, &record);
+            let segment = match rng.below(4) {
+                0 => segment(rng) as i32,
+                1 => no_segment(rng, 0),
+                _ => rng.next() as i32,
+            };
+            track.table.set(at, picture, segment, &record);
         }
     }
     same_answers(compare, rng, (a, b), (&more[0], &more[1]));
 }
 
 /// The same tracks, the second pair with other entries past the counts: both
-/// pairs must give the same answers, tables and records.
-fn same_answers(
+/// pairs must give the same answers, tables and points.
+pub fn same_answers(
     compare: &mut Compare,
     rng: &mut Rng,
     (a, b): (&Track, &Track),
@@ -957,7 +1061,7 @@ fn same_answers(
         let second = compare.join(more.0, more.1);
         same &= first.0 == second.0 && first.0 != 16;
         if let (Some(first), Some(second)) = (first.1, second.1) {
-            same &= first.count == second.count && first.table == second.table;
+            same &= first == second;
         }
     }
     let mut asked = vec![i32::MIN, i32::MAX, rng.next() as i32];
@@ -971,11 +1075,11 @@ fn same_answers(
     for picture in asked {
         let first = compare.lookup(&a.table, a.count, picture);
         let found = compare.single();
-        let record = compare.record().to_vec();
+        let point = compare.in_force().to_vec();
         let second = compare.lookup(&a_more.table, a_more.count, picture);
         same &= first == 0 && second == 0 && found == compare.single();
-        // Where nothing is in force the record holds its pattern still.
-        same &= found == 0 || record == compare.record();
+        // Zeros where nothing is in force.
+        same &= point == compare.in_force();
     }
     if !same {
         compare.fail(

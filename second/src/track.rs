@@ -1,27 +1,32 @@
-//! 01, "Tracks": a table of 64 points with a count.
+//! 01, "Tracks": a table of 64 points with a count. Each point carries the number of
+//! the segment that it came from (02, g).
 //!
 //! The second half is the flat table, the form in which tables cross the
 //! interface of the proved archive.
 
-use crate::record::{from_flat, to_flat, valid, Record, EMPTY, FLAT};
+use crate::record::{as_u16, from_flat, to_flat, valid, Record, EMPTY, FLAT};
 
 /// The points of a table.
 pub const POINTS: usize = 64;
 
+/// "Points are then equal only if number, record and segment are" (02, g).
 #[derive(Clone, Copy, PartialEq, Eq, Debug)]
 pub struct Point {
     pub picture: i32,
+    pub segment: u16,
     pub record: Record,
 }
 
-/// "Entries past the new count become picture 0 with the empty record."
+/// "Entries past the new count become picture 0 with the empty record", and "cleared
+/// entries have segment 0" (02, g).
 pub const CLEARED: Point = Point {
     picture: 0,
+    segment: 0,
     record: EMPTY,
 };
 
 /// Refusal 16's question. The whole track is judged, whatever is asked of it;
-/// points past the count are ignored.
+/// points past the count are ignored. Any segment will do.
 fn is_track(table: &[Point], count: usize) -> bool {
     if table.len() != POINTS || count > POINTS {
         return false;
@@ -37,23 +42,31 @@ fn is_track(table: &[Point], count: usize) -> bool {
     true
 }
 
-/// The record in force: that of the point with the greatest number not above
-/// the picture's, or nothing. Refuses only with 16.
-pub fn lookup(table: &[Point], count: usize, picture: i32) -> Result<Option<&Record>, u32> {
+/// The point whose record is in force, the one with the greatest number not above the
+/// picture's, or nothing. That number is the track's start at the picture, and "lookup
+/// gives" the segment too (02, g). Refuses only with 16.
+pub fn lookup(table: &[Point], count: usize, picture: i32) -> Result<Option<&Point>, u32> {
     if !is_track(table, count) {
         return Err(16);
     }
     let mut in_force = None;
     for point in &table[..count] {
         if point.picture <= picture {
-            in_force = Some(&point.record);
+            in_force = Some(point);
         }
     }
     Ok(in_force)
 }
 
-/// The new count. "Placing a record at a picture: 14, then 13."
-pub fn place(record: &Record, picture: i32, table: &mut [Point]) -> Result<usize, u32> {
+/// The new count. "Placing a record at a picture: 14, then 13." The segment is "given
+/// when the payload is placed" (02, g). A record with the flag 0 makes no point that
+/// could carry it.
+pub fn place(
+    record: &Record,
+    picture: i32,
+    segment: u16,
+    table: &mut [Point],
+) -> Result<usize, u32> {
     if !valid(record) {
         return Err(14);
     }
@@ -68,6 +81,7 @@ pub fn place(record: &Record, picture: i32, table: &mut [Point]) -> Result<usize
     }
     table[0] = Point {
         picture,
+        segment,
         record: *record,
     };
     Ok(1)
@@ -92,7 +106,7 @@ pub fn join(
         return Err(13);
     }
     // Every number of either, in rising order; where both hold the number, the
-    // point of the second.
+    // point of the second, its segment with its record (02, g).
     let mut points: Vec<&Point> = Vec::with_capacity(2 * POINTS);
     let mut i = 0;
     let mut j = 0;
@@ -122,23 +136,34 @@ pub fn join(
 
 // -------------------------------------------------------------- flat table
 
-/// The numbers of a point in a flat table: its picture, then its flat record.
-pub const FLAT_POINT: usize = 1 + FLAT;
+/// The numbers of a flat point: its picture, its segment, then its flat record.
+pub const FLAT_POINT: usize = RECORD + FLAT;
+pub const PICTURE: usize = 0;
+pub const SEGMENT: usize = 1;
+pub const RECORD: usize = 2;
 /// The numbers of a flat table.
 pub const FLAT_TABLE: usize = POINTS * FLAT_POINT;
 
-/// The point that 147 numbers name, or none if they name no record.
+/// The point that 148 numbers name, or none if the second is no segment number or
+/// those behind it name no record.
 pub fn point_from_flat(flat: &[i32]) -> Option<Point> {
     Some(Point {
-        picture: flat[0],
-        record: from_flat(&flat[1..])?,
+        picture: flat[PICTURE],
+        segment: as_u16(flat[SEGMENT])?,
+        record: from_flat(&flat[RECORD..])?,
     })
+}
+
+/// Writes all 148 numbers.
+pub fn point_to_flat(point: &Point, flat: &mut [i32]) {
+    flat[PICTURE] = point.picture;
+    flat[SEGMENT] = point.segment as i32;
+    to_flat(&point.record, &mut flat[RECORD..]);
 }
 
 /// Writes all numbers of a table.
 pub fn table_to_flat(table: &[Point], flat: &mut [i32]) {
     for (point, numbers) in table.iter().zip(flat.chunks_mut(FLAT_POINT)) {
-        numbers[0] = point.picture;
-        to_flat(&point.record, &mut numbers[1..]);
+        point_to_flat(point, numbers);
     }
 }

@@ -21,7 +21,7 @@ use Rattle.record.specs.declared.Place.{Place}
 use Rattle.record.specs.declared.Record.{Record}
 use Rattle.record.specs.Made.{placeWith}
 use Rattle.record.specs.Blocks.{mostBlocks, emptyPlace, blockIn}
-use Rattle.flat.specs.Flat.{placeLength, flatBlock, rowsOf, flatPlace, blockSaid, unnamedRecord, names, said, recordIn, flatPlaces, flat, flatLength, sameRow, placeNumbers, placeIn, each, always, namesHead, namesBlock, sameNumber, numberAt, unsignedIn}
+use Rattle.flat.specs.Flat.{placeLength, flatBlock, rowsOf, flatPlace, blockSaid, unnamedRecord, names, said, recordIn, recordBeside, flatPlaces, flat, flatLength, sameRow, placeNumbers, placeIn, each, always, namesHead, namesBlock, sameNumber, numberAt, unsignedIn}
 use Rattle.flat.proofs.Rows.{same-bits, paste-more}
 
 -- ---- eight numbers for each place
@@ -111,21 +111,30 @@ read-more l i r b h e f =
     ∙ ap (λ (ps : List Place). record { refresh = readTo l i .refresh; count = readTo l i .count; places = ps }) (each-more (placeIn l) (replicate mostBlocks emptyPlace) emptyPlace i h)
     ∙ ap (readTo l) (sym (add-one i))
 
-pub named-more : (l : List ℤ) (i : ℕ) (t u : Bool) → t ≡ namedTo l i → u ≡ namesBlock (placeNumbers l i) → t && u ≡ namedTo l (i + 1)
+pub named-more : (beside : Bool) (l : List ℤ) (i : ℕ) (t u : Bool) → t ≡ beside && namedTo l i → u ≡ namesBlock (placeNumbers l i) → t && u ≡ beside && namedTo l (i + 1)
 unfolding always
-named-more l i t u e f =
-    rw (e, f, add-one i) (and-assoc (namesHead l) (always (λ j. namesBlock (placeNumbers l j)) i) (namesBlock (placeNumbers l i)))
+named-more beside l i t u e f =
+    rw (e, f, add-one i) (and-assoc beside (namedTo l i) (namesBlock (placeNumbers l i))
+    ∙ ap (λ (b : Bool). beside && b) (and-assoc (namesHead l) (always (λ j. namesBlock (placeNumbers l j)) i) (namesBlock (placeNumbers l i))))
 
 -- after all of them
-pub read-named : (l : List ℤ) (r : Record) → r ≡ readTo l mostBlocks → namedTo l mostBlocks ≡ true → r ≡ recordIn l
+read-named : (l : List ℤ) (r : Record) → r ≡ readTo l mostBlocks → namedTo l mostBlocks ≡ true → r ≡ recordIn l
 unfolding recordIn names said
 read-named l r e h =
     e ∙ ap (λ (ps : List Place). record { refresh = readTo l 0 .refresh; count = readTo l 0 .count; places = ps }) (append-nil (each (placeIn l) mostBlocks))
     ∙ sym (ap (λ (t : Bool). cond t (said l) unnamedRecord) h)
 
-pub not-named : (l : List ℤ) → namedTo l mostBlocks ≡ false → unnamedRecord ≡ recordIn l
+not-named : (l : List ℤ) → namedTo l mostBlocks ≡ false → unnamedRecord ≡ recordIn l
 unfolding recordIn names
 not-named l h = sym (ap (λ (t : Bool). cond t (said l) unnamedRecord) h)
+
+pub read-beside : (beside : Bool) (l : List ℤ) (r : Record) → r ≡ readTo l mostBlocks → beside && namedTo l mostBlocks ≡ true → r ≡ recordBeside beside l
+read-beside true l r e h = read-named l r e h
+read-beside false l r e h = let z : _≡_ {A = ℕ} 0 1 = cc in absurd (omega arith)
+
+pub not-beside : (beside : Bool) (l : List ℤ) → beside && namedTo l mostBlocks ≡ false → unnamedRecord ≡ recordBeside beside l
+not-beside true l h = not-named l h
+not-beside false l h = refl
 
 -- ---- the flag and the count
 

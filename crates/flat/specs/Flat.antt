@@ -138,6 +138,10 @@ unnamedRecord = record { refresh = false; count = 1; places = replicate mostBloc
 unfoldable pub recordIn : List ℤ → Record
 recordIn l = cond (names l) (said l) unnamedRecord
 
+-- the record that numbers name beside others, which name something or not; where these do not, it is treated as one that is not valid
+abbrev pub recordBeside : Bool → List ℤ → Record
+recordBeside beside l = cond beside (recordIn l) unnamedRecord
+
 -- ---- the records that numbers of 32 bits can name: each field fits its type
 
 -- the type of a field: u16, and i16 where it has a sign

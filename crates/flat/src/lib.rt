@@ -7,7 +7,7 @@ ghost use Prim.Native.Nat.{_+_, _*_, _≤_};
 ghost use lib.ListN.{length, take, drop};
 ghost use lib.Seq.{paste};
 ghost use Rattle.record.specs.Blocks.{mostBlocks};
-ghost use Rattle.flat.specs.Flat.{placeLength, flatLength, flatBlock, flatPlaces, flat, sameRow, unsignedIn, signedIn, blockSaid, blockNamed, unnamedRecord, recordIn};
+ghost use Rattle.flat.specs.Flat.{placeLength, flatLength, flatBlock, flatPlaces, flat, sameRow, unsignedIn, signedIn, blockSaid, blockNamed, unnamedRecord, recordIn, recordBeside};
 
 // How many numbers a place has, and a record: the flag, the count and its places.
 pub const PLACE: usize = 8;
@@ -29,7 +29,7 @@ fn byte(number: i32) -> u8
 }
 
 // The number where a u16 holds it, and else 0.
-fn unsigned(number: i32) -> u16
+pub fn unsigned(number: i32) -> u16
     ensures { λ r. ⌜ r ≡ unsignedIn 16 number ⌝ }
 {
     if 0 <= number {
@@ -220,10 +220,11 @@ fn not_valid() -> Record
     r
 }
 
-// The record that the numbers from a place of a row on name, or one that is not valid where they name none.
-pub fn get_record(row: &[i32], at: usize) -> Record
+// The record that the numbers from a place of a row on name, or one that is not valid where they name none, or where what stands beside
+// them names nothing. (That is asked here, and not by the caller, so that a record is built at one place and not copied.)
+pub fn get_beside(row: &[i32], at: usize, beside: bool) -> Record
     requires { ⌜ at + flatLength ≤ length (now row) ⌝ }
-    ensures { λ r. ⌜ r ≡ recordIn (take flatLength (drop at (now (row .entry)))) ⌝ }
+    ensures { λ r. ⌜ r ≡ recordBeside beside (take flatLength (drop at (now (row .entry)))) ⌝ }
 {
     let flag = row[at];
     let number = row[at + 1];
@@ -231,7 +232,7 @@ pub fn get_record(row: &[i32], at: usize) -> Record
     let refresh = flag == 1;
     let mut r = Record::without_blocks(refresh);
     r.count = count;
-    let mut named = (flag == refresh as i32) & (number == count as i32);
+    let mut named = beside & ((flag == refresh as i32) & (number == count as i32));
     let mut i: usize = 0;
     while i < BLOCKS {
         let eight = eight_at(row, at + 2 + PLACE * i);
@@ -244,4 +245,12 @@ pub fn get_record(row: &[i32], at: usize) -> Record
         return r;
     }
     not_valid()
+}
+
+// The same, with nothing beside.
+pub fn get_record(row: &[i32], at: usize) -> Record
+    requires { ⌜ at + flatLength ≤ length (now row) ⌝ }
+    ensures { λ r. ⌜ r ≡ recordIn (take flatLength (drop at (now (row .entry)))) ⌝ }
+{
+    get_beside(row, at, true)
 }

@@ -1,13 +1,15 @@
--- Calls in turn: what one call leaves is what the next one reads. A placing and a join leave exactly their track, a reading its record.
-use Prim.Native.Nat.{ℕ, _+_, _*_, _/_, _%_, _^_, _≤_}
+-- Calls in turn: what one call leaves is what the next one reads. A placing and a join leave exactly their track, a lookup the record in
+-- force, a reading its record.
+use Prim.Native.Nat.{ℕ, _+_, _*_, _/_, _%_, _^_, _<_, _≤_}
 use mathlib.Core.Path.{_≡_, refl, ap, _∙_}
 use mathlib.Core.Bool.{Bool, true, false, cond}
 use mathlib.Core.List.{List, [], _∷_}
+use mathlib.Core.Option.{Option, none, some}
 use native.Mathlib.Omega.{arith}
 use borrow.Author.Tests.{leb-true}
 use lib.Dec.{leb}
 use lib.IntN.{ℤ}
-use lib.ListN.{length, take, getD}
+use lib.ListN.{length, take, drop, getD}
 use Rattle.refusals.specs.Refusals.{notValid, tooManyPoints, notATrack}
 use Rattle.tree.specs.Bits.{bitsOf, Bytes}
 use Rattle.tree.specs.Reading.{Out, ok, no}
@@ -25,17 +27,18 @@ use Rattle.cause.specs.declared.Kind.the-variants.{Untold, Range, Other}
 use Rattle.cause.specs.declared.Cause.{Cause}
 use Rattle.reader.specs.declared.Reading.{Reading}
 use Rattle.reader.specs.Reading.{readingOf, readBare}
+use Rattle.keyed.specs.Keyed.{Compared, less, same, greater, inForceBy}
 use Rattle.keyed.proofs.Mapped.{join-all}
 use Rattle.plan.specs.Limit.{mostPoints}
-use Rattle.plan.specs.Pictures.{pictures}
+use Rattle.plan.specs.Pictures.{Before, order, pictures}
 use Rattle.track.specs.declared.Point.{Point}
-use Rattle.track.specs.Track.{number, padded, isTrack, joinOf, placedPoints}
+use Rattle.track.specs.Track.{number, cleared, padded, isTrack, joinOf, placedPoints, pointInForce, noneInForce, shown}
 use Rattle.reason.specs.Reason.{reason, reasonText}
 use Rattle.flat.specs.Flat.{flat, recordIn}
 use Rattle.flat.proofs.Named.{length-in, flat-names, valid-is-typed}
-use Rattle.tables.specs.Table.{tableIn}
-use Rattle.tables.proofs.Back.{TypedPoint, AllTyped, padded-back, track-typed}
-use Rattle.pimlasut.specs.Boundary.{kindNumber, factsOf, pointNamed, placing, placedTable, joining, joinedTable}
+use Rattle.tables.specs.Table.{flatPoint, tableIn}
+use Rattle.tables.proofs.Back.{TypedPoint, AllTyped, cleared-typed, padded-back, track-typed}
+use Rattle.pimlasut.specs.Boundary.{kindNumber, factsOf, pointNamed, placing, placedTable, looking, joining, joinedTable}
 
 done-by : (u v w : Bool) → _≡_ {A = ℕ} (cond u (cond v (cond w 0 tooManyPoints) notATrack) notATrack) 0 → (u ≡ true) × (v ≡ true) × (w ≡ true)
 done-by true true true e = (refl, refl, refl)
@@ -57,12 +60,41 @@ good-by : (u : Bool) → _≡_ {A = ℕ} (cond u 0 notValid) 0 → u ≡ true
 good-by true e = refl
 good-by false e = absurd (omega (arith, e))
 
-pub placed-is-read : (numbers : List ℤ) (picture : ℤ) → placing numbers picture .result ≡ 0 → tableIn (placedTable numbers picture) ≡ padded (placedPoints (pointNamed numbers picture))
-placed-is-read numbers picture e =
+pub placed-is-read : (numbers : List ℤ) (picture : ℤ) (segment : ℕ) → segment < 2 ^ 16 → placing numbers picture segment .result ≡ 0
+    → tableIn (placedTable numbers picture segment) ≡ padded (placedPoints (pointNamed numbers picture segment))
+placed-is-read numbers picture segment h e =
     let r = recordIn numbers in
-    let x = pointNamed numbers picture in
-    let g = placed-by (r .refresh) x (valid-is-typed r (length-in numbers) (good-by (valid r) e)) in
+    let x = pointNamed numbers picture segment in
+    let g = placed-by (r .refresh) x (record { segment-fits = h; fields-fit = valid-is-typed r (length-in numbers) (good-by (valid r) e) }) in
     padded-back (placedPoints x) (g .0) (g .1)
+
+-- and the record's numbers in the point that a lookup leaves name the record in force, or with nothing the empty one
+abbrev TypedIf : Option Point → Type 0
+TypedIf none = Unit {0}
+TypedIf (some x) = TypedPoint x
+
+in-force-typed : (k : ℤ) (l : List Point) → AllTyped l → TypedIf (pointInForce k l)
+in-force-typed k [] g = tt
+in-force-typed k (x ∷ xs) g = by (order k (number x)) (pointInForce k xs) (in-force-typed k xs (g .1))
+  where
+    by : (t : Compared Before k (number x)) (o : Option Point) → TypedIf o → TypedIf (inForceBy pictures number x o t)
+    by (less h) o i = tt
+    by (same e) o i = g .0
+    by (greater h) none i = g .0
+    by (greater h) (some y) i = i
+
+shown-named : (o : Option Point) → TypedIf o → recordIn (drop 2 (flatPoint (shown o .point))) ≡ shown o .point .«record»
+unfolding flatPoint cleared
+shown-named none i = flat-names emptyRecord (cleared-typed .fields-fit)
+shown-named (some x) i = flat-names (x .«record») (i .fields-fit)
+
+pub looked-up-is-named : (table : List ℤ) (count : ℕ) (picture : ℤ) → recordIn (drop 2 (flatPoint (looking table count picture .point))) ≡ looking table count picture .point .«record»
+looked-up-is-named table count picture = go (isTrack (tableIn table) count) refl
+  where
+    go : (b : Bool) → isTrack (tableIn table) count ≡ b
+        → let a = cond b (shown (pointInForce picture (take count (tableIn table)))) (noneInForce notATrack) in recordIn (drop 2 (flatPoint (a .point))) ≡ a .point .«record»
+    go true e = shown-named (pointInForce picture (take count (tableIn table))) (in-force-typed picture (take count (tableIn table)) (track-typed table count e))
+    go false e = shown-named none tt
 
 -- and the numbers that a reading leaves name the record that was read
 pub reading-is-named : (s : List ℕ) → Bytes s → readBare s .result ≡ 0 → recordIn (flat (readBare s .«record»)) ≡ readBare s .«record»

@@ -29,10 +29,9 @@ use Rattle.plan.specs.declared.Sought.{Sought}
 use Rattle.plan.specs.Limit.{mostPoints}
 use Rattle.plan.specs.Planning.{noSources, layoutOf, mergedSources, refusedLayout, planOf}
 use Rattle.plan.specs.Seeking.{reachOf, noneSought, soughtAt, seekOf}
-use Rattle.track.specs.declared.Point.{Point}
 use Rattle.track.specs.declared.InForce.{InForce}
 use Rattle.track.specs.declared.Joined.{Joined}
-use Rattle.track.specs.Track.{padded, joinOf, joinRefusal, joinAnswer, lookupAnswer}
+use Rattle.track.specs.Track.{cleared, padded, joinOf, joinRefusal, joinAnswer, lookupAnswer}
 use Rattle.track.specs.Inner.{pointAt, heldOf, missingOf, lookFrom, scanOf, chosenOf, filledTo, answerOf}
 use Rattle.track.proofs.Together.{laid, answer-is, table-is}
 use Rattle.track.proofs.Looking.{look-is, inside}
@@ -40,7 +39,7 @@ use Rattle.reason.specs.Reason.{reasonText, longest, writeReason, reasonBuffer}
 use Rattle.reason.proofs.Longest.{longest-bytes}
 use Rattle.flat.specs.Flat.{flat, flatLength, recordIn}
 use Rattle.flat.proofs.Named.{length-in}
-use Rattle.tables.specs.Table.{pointIn, tableIn}
+use Rattle.tables.specs.Table.{pointIn, tableIn, foundIn}
 use Rattle.tables.proofs.Laws.{length-table, table-at}
 use Rattle.pimlasut.specs.Boundary.{ifSized, after, isRecord, isFacts, factsOf, factsAfter, answerInto}
 
@@ -238,19 +237,12 @@ module _ (l : List ℤ) (n : ℕ) (p : ℤ) where
   pub sought-within : sought .found ≡ true → sought .at < mostPoints
   sought-within h = omega (arith, inside (tableIn l) n p h, length-table l)
 
-  record-by : (t : Bool) → sought .found ≡ t → (m : Bool) (old : List ℤ)
-      → cond (m && t) (flat (pointIn l (sought .at) .«record»)) old ≡ cond (m && t) (flat (cond t (heldOf (pointAt (tableIn l) (sought .at))) (missingOf sought) .«record»)) old
-  record-by true h true old = ap (λ (q : Point). flat (q .«record»)) (sym (table-at l (sought .at) (sought-within h)))
-  record-by true h false old = refl
-  record-by false h true old = refl
-  record-by false h false old = refl
+  point-by : (t : Bool) → sought .found ≡ t → cond t (pointIn l (sought .at)) cleared ≡ cond t (heldOf (pointAt (tableIn l) (sought .at))) (missingOf sought) .point
+  point-by true h = sym (table-at l (sought .at) (sought-within h))
+  point-by false h = refl
 
-  pub sought-record : (m : Bool) (old : List ℤ)
-      → cond (m && sought .found) (flat (pointIn l (sought .at) .«record»)) old ≡ cond (m && lookupAnswer (tableIn l) n p .found) (flat (lookupAnswer (tableIn l) n p .«record»)) old
-  sought-record m old =
-      record-by (sought .found) refl m old
-      ∙ ap (λ (a : InForce). cond (m && sought .found) (flat (a .«record»)) old) (look-is (tableIn l) n p)
-      ∙ ap (λ (t : Bool). cond (m && t) (flat (lookupAnswer (tableIn l) n p .«record»)) old) sought-found
+  pub sought-point : foundIn l sought ≡ lookupAnswer (tableIn l) n p .point
+  sought-point = point-by (sought .found) refl ∙ ap (λ (a : InForce). a .point) (look-is (tableIn l) n p)
 
 -- ---- a join
 

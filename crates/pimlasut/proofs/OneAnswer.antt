@@ -70,7 +70,7 @@ pim-write-unit-one κs a x y s t e f = let p = e .0 ∙ sym (f .0) in (p, cc, cc
 pub pim-why-wrapped-one : OneArrayAndNumber pim-why-wrapped.ps pim-why-wrapped.r pim-why-wrapped-contract.Post (λ κs s. now (s .1 .0)) (λ κs s. now (s .1 .1 .0))
 pim-why-wrapped-one κs a x y s t e f = let p = e .0 ∙ sym (f .0) in (p, cc, cc)
 
-pub pim-place-one : OneArrayAndNumber pim-place.ps pim-place.r pim-place-contract.Post (λ κs s. now (s .1 .1 .0)) (λ κs s. now (s .1 .1 .1 .0))
+pub pim-place-one : OneArrayAndNumber pim-place.ps pim-place.r pim-place-contract.Post (λ κs s. now (s .1 .1 .1 .0)) (λ κs s. now (s .1 .1 .1 .1 .0))
 pim-place-one κs a x y s t e f = let p = e .0 ∙ sym (f .0) in (p, cc, cc)
 
 pub pim-lookup-one : OneArrayAndNumber pim-lookup.ps pim-lookup.r pim-lookup-contract.Post (λ κs s. now (s .1 .1 .1 .0)) (λ κs s. now (s .1 .1 .1 .1 .0))

@@ -15,13 +15,13 @@ use Rattle.cause.specs.declared.Cause.{Cause}
 use Rattle.reader.specs.declared.Reading.{Reading}
 use Rattle.reader.specs.Reading.{unplaced}
 use Rattle.plan.specs.Limit.{mostPoints}
-use Rattle.track.specs.Track.{padded, joinOf, joinAnswer, placedPoints, placeAnswer, lookupAnswer}
+use Rattle.track.specs.Track.{pointWith, padded, joinOf, joinAnswer, placedPoints, placeAnswer, lookupAnswer}
 use Rattle.track.specs.declared.Point.{Point}
 use Rattle.track.specs.declared.Placed.{Placed}
 use Rattle.track.specs.declared.InForce.{InForce}
 use Rattle.track.specs.declared.Joined.{Joined}
 use Rattle.flat.specs.Flat.{flatLength, recordIn}
-use Rattle.tables.specs.Table.{flatTable, tableLength, tableIn}
+use Rattle.tables.specs.Table.{pointLength, flatTable, tableLength, tableIn}
 
 -- an argument of a wrong length is refused with 13 before everything else
 abbrev pub ifSized : Bool → ℕ → ℕ
@@ -34,6 +34,10 @@ after result new old = cond (eqb result 0) new old
 -- the row has as many numbers as a record
 abbrev pub isRecord : List ℤ → Bool
 isRecord l = eqb (length l) flatLength
+
+-- the row has as many numbers as a point
+abbrev pub isPoint : List ℤ → Bool
+isPoint l = eqb (length l) pointLength
 
 -- the row has as many numbers as a table
 abbrev pub isTable : List ℤ → Bool
@@ -78,17 +82,17 @@ abbrev pub singles : ℕ
 singles = 7
 
 -- ---- the track functions, of tables of numbers
--- the point to be placed: the record that the numbers name, at the picture
-abbrev pub pointNamed : List ℤ → ℤ → Point
-pointNamed numbers picture = record { picture = picture; «record» = recordIn numbers }
+-- the point to be placed: the record that the numbers name, of the segment, at the picture
+abbrev pub pointNamed : List ℤ → ℤ → ℕ → Point
+pointNamed numbers picture segment = pointWith (recordIn numbers) picture segment
 
 -- what a placing answers
-abbrev pub placing : List ℤ → ℤ → Placed
-placing numbers picture = placeAnswer (pointNamed numbers picture) mostPoints
+abbrev pub placing : List ℤ → ℤ → ℕ → Placed
+placing numbers picture segment = placeAnswer (pointNamed numbers picture segment) mostPoints
 
 -- the numbers of the table that it leaves where it is done
-abbrev pub placedTable : List ℤ → ℤ → List ℤ
-placedTable numbers picture = flatTable (padded (placedPoints (pointNamed numbers picture)))
+abbrev pub placedTable : List ℤ → ℤ → ℕ → List ℤ
+placedTable numbers picture segment = flatTable (padded (placedPoints (pointNamed numbers picture segment)))
 
 -- what a lookup answers, of the table that the numbers are
 abbrev pub looking : List ℤ → ℕ → ℤ → InForce

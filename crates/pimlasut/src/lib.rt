@@ -1,5 +1,5 @@
 // The library for C: include/pimlasut.h has the same functions with C's types. A slice crosses as a pointer and a length.
-// A record crosses as 146 numbers and a table of points as 9,408 (crates flat, tables), because no enum crosses.
+// A record crosses as 146 numbers and a table of points as 9,472 (crates flat, tables), because no enum crosses.
 // Every function answers the result number; on a refusal every lent array and number stays as it was, but the facts of a reading, which
 // say where and why then.
 use cause::Cause;
@@ -10,7 +10,7 @@ use reader::Reading;
 use shader::Numbers;
 use track::Point;
 ghost use mathlib.Core.Path.{_≡_};
-ghost use mathlib.Core.Bool.{true, cond, _&&_};
+ghost use mathlib.Core.Bool.{true, _&&_};
 ghost use mathlib.Core.List.{_∷_};
 ghost use Prim.Native.Nat.{_<_};
 ghost use lib.Dec.{eqb};
@@ -27,8 +27,8 @@ ghost use Rattle.plan.specs.Limit.{mostPoints};
 ghost use Rattle.track.specs.Track.{padded, placedPoints};
 ghost use Rattle.reason.specs.Reason.{writeReason, reasonBuffer};
 ghost use Rattle.flat.specs.Flat.{placeLength, flat, flatLength, recordIn, blockNamed};
-ghost use Rattle.tables.specs.Table.{flatTable, tableLength, pointIn};
-ghost use Rattle.pimlasut.specs.Boundary.{ifSized, after, isRecord, isTable, kindNumber, causeFacts, factsLength, factsOf, factsAfter, answerInto, singles, placing, placedTable, looking, joining, joinedTable, Patterns};
+ghost use Rattle.tables.specs.Table.{flatPoint, pointLength, flatTable, tableLength, foundIn};
+ghost use Rattle.pimlasut.specs.Boundary.{ifSized, after, isRecord, isPoint, isTable, kindNumber, causeFacts, factsLength, factsOf, factsAfter, answerInto, singles, placing, placedTable, looking, joining, joinedTable, Patterns};
 
 // 01, Refusal numbers, as C's functions give them.
 const WRONG_LENGTH: u32 = refusals::UNFIT_OUTPUT as u32;
@@ -45,10 +45,10 @@ const SINGLES: usize = 7;
 // the lowest and the highest that are allowed.
 const FACTS: usize = 10;
 
-fn mark(in_wrapper: bool) -> u32
-    ensures { λ r. ⌜ r ≡ bit in_wrapper ⌝ }
+fn mark(is_so: bool) -> u32
+    ensures { λ r. ⌜ r ≡ bit «is_so» ⌝ }
 {
-    if in_wrapper { 1 } else { 0 }
+    if is_so { 1 } else { 0 }
 }
 
 // The kind's number: its place in the enum.
@@ -281,44 +281,43 @@ fn place_point(table: &mut [i32], point: Point) -> u32
 pub extern "C" fn pim_place(
     numbers: &[i32],
     picture: i32,
+    segment: u16,
     table: &mut [i32],
     count: &mut u32,
 ) -> u32
-    ensures result { λ r. ⌜ r ≡ ifSized (isRecord (now (numbers .entry)) && isTable (now (table .entry))) (placing (now (numbers .entry)) picture .result) ⌝ }
-    ensures table { λ r. ⌜ now (table .exit) ≡ after r (placedTable (now (numbers .entry)) picture) (now (table .entry)) ⌝ }
-    ensures count { λ r. ⌜ now (count .exit) ≡ after r (placing (now (numbers .entry)) picture .count) (now (count .entry)) ⌝ }
+    ensures result { λ r. ⌜ r ≡ ifSized (isRecord (now (numbers .entry)) && isTable (now (table .entry))) (placing (now (numbers .entry)) picture segment .result) ⌝ }
+    ensures table { λ r. ⌜ now (table .exit) ≡ after r (placedTable (now (numbers .entry)) picture segment) (now (table .entry)) ⌝ }
+    ensures count { λ r. ⌜ now (count .exit) ≡ after r (placing (now (numbers .entry)) picture segment .count) (now (count .entry)) ⌝ }
 {
     if (numbers.len() != flat::NUMBERS) | (table.len() != tables::NUMBERS) {
         return WRONG_LENGTH;
     }
     let r = flat::get_record(numbers, 0);
     if valid::is_valid(r) {
-        let point = Point { picture, record: r };
+        let point = Point {
+            picture,
+            segment,
+            record: r,
+        };
         *count = place_point(table, point);
         return 0;
     }
     NOT_VALID
 }
 
-// What a search has found, shown.
+// What a search has found, shown: the point, or a cleared one.
 fn show(table: &[i32], sought: Sought, numbers: &mut [i32], found: &mut u32) -> u32
-    requires { ⌜ (length (now table) ≡ tableLength) × (length (now numbers) ≡ flatLength) × (sought .found ≡ true → sought .at < mostPoints) ⌝ }
+    requires { ⌜ (length (now table) ≡ tableLength) × (length (now numbers) ≡ pointLength) × (sought .found ≡ true → sought .at < mostPoints) ⌝ }
     ensures result { λ r. ⌜ r ≡ sought .result ⌝ }
-    ensures record { λ r. ⌜ now (numbers .exit) ≡ cond (eqb r 0 && sought .found) (flat (pointIn (now (table .entry)) (sought .at) .«record»)) (now (numbers .entry)) ⌝ }
+    ensures point { λ r. ⌜ now (numbers .exit) ≡ after r (flatPoint (foundIn (now (table .entry)) sought)) (now (numbers .entry)) ⌝ }
     ensures found { λ r. ⌜ now (found .exit) ≡ after r (bit (sought .found)) (now (found .entry)) ⌝ }
 {
     if sought.result != 0 {
         return sought.result as u32;
     }
-    if sought.found {
-        let at = sought.at;
-        let point = tables::get_point(table, at);
-        let shown = point.record;
-        flat::put_record(numbers, 0, shown);
-        *found = 1;
-        return 0;
-    }
-    *found = 0;
+    let point = tables::found_point(table, sought);
+    tables::put_point(numbers, 0, point);
+    *found = mark(sought.found);
     0
 }
 
@@ -330,11 +329,11 @@ pub extern "C" fn pim_lookup(
     numbers: &mut [i32],
     found: &mut u32,
 ) -> u32
-    ensures result { λ r. ⌜ r ≡ ifSized (isTable (now (table .entry)) && isRecord (now (numbers .entry))) (looking (now (table .entry)) count picture .result) ⌝ }
-    ensures record { λ r. ⌜ now (numbers .exit) ≡ cond (eqb r 0 && looking (now (table .entry)) count picture .found) (flat (looking (now (table .entry)) count picture .«record»)) (now (numbers .entry)) ⌝ }
+    ensures result { λ r. ⌜ r ≡ ifSized (isTable (now (table .entry)) && isPoint (now (numbers .entry))) (looking (now (table .entry)) count picture .result) ⌝ }
+    ensures point { λ r. ⌜ now (numbers .exit) ≡ after r (flatPoint (looking (now (table .entry)) count picture .point)) (now (numbers .entry)) ⌝ }
     ensures found { λ r. ⌜ now (found .exit) ≡ after r (bit (looking (now (table .entry)) count picture .found)) (now (found .entry)) ⌝ }
 {
-    if (table.len() != tables::NUMBERS) | (numbers.len() != flat::NUMBERS) {
+    if (table.len() != tables::NUMBERS) | (numbers.len() != tables::POINT) {
         return WRONG_LENGTH;
     }
     let seen = tables::scan(table, count);

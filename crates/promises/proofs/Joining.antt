@@ -3,23 +3,23 @@ use Prim.Native.Nat.{ℕ, _≤_, _<_}
 use mathlib.Core.Path.{_≡_, refl, ap, sym, _∙_}
 use mathlib.Core.List.{List, []}
 use mathlib.Core.Bool.{Bool, true, false, cond}
+use mathlib.Core.Option.{Option, none, some}
 use native.Mathlib.Omega.{arith}
 use borrow.Author.Tests.{eqb-true, eq-eqb, ne-eqb, leb-true, le-leb, leb-false, lt-leb}
 use lib.Dec.{eqb, leb}
-use lib.IntN.{ℤ}
 use lib.ListN.{length}
 use Rattle.refusals.specs.Refusals.{tooManyPoints}
-use Rattle.record.specs.declared.Record.{Record}
 use Rattle.keyed.proofs.Laws.{join-rising, join-groups, nothing-joined, agreeing-swaps, swapping-agrees}
 use Rattle.keyed.proofs.Counted.{join-length, first-length, second-length}
 use Rattle.plan.specs.Limit.{mostPoints}
 use Rattle.plan.specs.Pictures.{pictures}
 use Rattle.track.specs.declared.Point.{Point}
 use Rattle.track.specs.declared.Joined.{Joined}
-use Rattle.track.specs.Track.{number, padded, pointsOf, joinPoints, RisingPoints, AgreePoints, joinRefusal, joinedAt}
+use Rattle.track.specs.Track.{number, padded, pointsOf, joinPoints, RisingPoints, AgreePoints, pointAtNumber, joinRefusal, joinedAt}
 use Rattle.track.specs.Lent.{Table, tableOf, Track, pointsIn, answerInto, joinedInto}
-use Rattle.promises.specs.Joins.{Same, differentNumbers, inTurn, leftFirst, rightFirst, EqualWhereShared}
-use Rattle.promises.proofs.TrackLaws.{parts, in-order, as-many-as-counted, Done, done-means, joined-is, joined-points, outcome, answer-is, held-number}
+use Rattle.track.proofs.Tracks.{same-point}
+use Rattle.promises.specs.Joins.{Same, differentNumbers, inTurn, leftFirst, rightFirst, EqualPoints, EqualWhereShared}
+use Rattle.promises.proofs.TrackLaws.{parts, in-order, as-many-as-counted, Done, done-means, joined-is, joined-points, outcome, answer-is}
 use Rattle.promises.proofs.Shown.{joined-track}
 
 -- ---- refused
@@ -147,8 +147,19 @@ module _ (a e : Table) (result : List Point) (va : Track a) (ve : Track e) (none
 
 -- ---- swapped
 
-same-point : (x y : Point) → x .picture ≡ y .picture → x .«record» ≡ y .«record» → x ≡ y
-same-point x y e f = ap (λ (z : ℤ). record { picture = z; «record» = x .«record» }) e ∙ ap (λ (r : Record). record { picture = y .picture; «record» = r }) f
+pub equal-is : (x y : Point) → EqualPoints x y → x ≡ y
+equal-is x y e = same-point (e .equal-numbers) (e .equal-segments) (e .equal-records)
+
+pub is-equal : (x y : Point) → x ≡ y → EqualPoints x y
+is-equal x y e = record { equal-numbers = ap (λ (p : Point). p .picture) e; equal-segments = ap (λ (p : Point). p .segment) e; equal-records = ap (λ (p : Point). p .«record») e }
+
+abbrev pointOr : Point → Option Point → Point
+pointOr d none = d
+pointOr d (some x) = x
+
+-- one table holds equal points with itself
+pub same-held : (s t : Table) → s ≡ t → EqualWhereShared s t
+same-held s t e k x y ex ey = is-equal x y (ap (pointOr x) (sym ex ∙ ap (λ (u : Table). pointAtNumber k (pointsIn u)) e ∙ ey))
 
 module _ (a b : Table) (result : List Point) (fit : answerInto a b result .result ≡ 0) where
   d : Done a b result
@@ -161,7 +172,7 @@ module _ (a b : Table) (result : List Point) (fit : answerInto a b result .resul
   rb = in-order b (d .second)
 
   agree : EqualWhereShared a b → AgreePoints (pointsIn a) (pointsIn b)
-  agree h = λ k x y ex ey. same-point x y (held-number k (pointsIn a) x ex ∙ sym (held-number k (pointsIn b) y ey)) (h k x y ex ey)
+  agree h = λ k x y ex ey. equal-is x y (h k x y ex ey)
 
   pub shared-swaps : EqualWhereShared a b → (answerInto b a result ≡ answerInto a b result) × (joinedInto b a result ≡ joinedInto a b result)
   shared-swaps h =
@@ -171,4 +182,4 @@ module _ (a b : Table) (result : List Point) (fit : answerInto a b result .resul
 
   pub swaps-shared : answerInto b a result .result ≡ 0 → Same (joinedInto b a result) (joinedInto a b result) → EqualWhereShared a b
   swaps-shared g h k x y ex ey =
-      ap (λ (p : Point). p .«record») (swapping-agrees pictures number (pointsIn a) (pointsIn b) ra rb (sym (joined-points a b result fit) ∙ sym (h .same-points) ∙ joined-points b a result g) k x y ex ey)
+      is-equal x y (swapping-agrees pictures number (pointsIn a) (pointsIn b) ra rb (sym (joined-points a b result fit) ∙ sym (h .same-points) ∙ joined-points b a result g) k x y ex ey)

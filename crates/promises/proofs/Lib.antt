@@ -12,6 +12,7 @@ pub mod Shown
 pub mod Joining
 pub mod Placing
 pub mod Members
+pub mod Segments
 pub mod Tracks
 pub mod Pins
 pub mod Tied

@@ -70,10 +70,10 @@ module _ (t : Table) (p : ℤ) (v : Track t) where
   true-false e = let q : _≡_ {A = ℕ} 0 1 = cc in omega arith
 
   -- what is found is the record of the greatest
-  pub found-is-the-greatest : shownAt t p .found ≡ true → (x : Point) × Greatest t p x × (shownAt t p ≡ record { result = 0; found = true; «record» = x .«record» })
+  pub found-is-the-greatest : shownAt t p .found ≡ true → (x : Point) × Greatest t p x × (shownAt t p ≡ record { result = 0; found = true; point = x })
   found-is-the-greatest f = go (pointInForce p (pointsIn t)) refl
     where
-      go : (o : Option Point) → pointInForce p (pointsIn t) ≡ o → (x : Point) × Greatest t p x × (shownAt t p ≡ record { result = 0; found = true; «record» = x .«record» })
+      go : (o : Option Point) → pointInForce p (pointsIn t) ≡ o → (x : Point) × Greatest t p x × (shownAt t p ≡ record { result = 0; found = true; point = x })
       go none e = absurd (true-false (sym f ∙ ap (λ (r : InForce). r .found) (track-shows t p v) ∙ ap (λ (o : Option Point). shown o .found) e))
       go (some x) e = (x, found-greatest x (is-in-force (some x) e), track-shows t p v ∙ ap shown e)
 
@@ -89,7 +89,7 @@ module _ (t : Table) (p : ℤ) (v : Track t) where
           let q : number y ≡ j = held-number j (pointsIn t) y e in
           absurd (g .none-is-greater y (held-is-one j y (pointsIn t) e) (subst (λ (k : ℤ). NotAbove pictures k p) (sym q) n) (subst (λ (k : ℤ). Before (number x) k) (sym q) h))
 
-  pub the-greatest-is-found : (x : Point) → Greatest t p x → shownAt t p ≡ record { result = 0; found = true; «record» = x .«record» }
+  pub the-greatest-is-found : (x : Point) → Greatest t p x → shownAt t p ≡ record { result = 0; found = true; point = x }
   the-greatest-is-found x g = track-shows t p v ∙ ap shown (greatest-in-force x g)
 
   pub not-found-all-above : shownAt t p .found ≡ false → AllAbove t p

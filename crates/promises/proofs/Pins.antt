@@ -9,7 +9,7 @@ use native.Mathlib.Omega.{arith}
 use borrow.Author.Tests.{eqb-true, eqb-false, leb-true, leb-false}
 use lib.Dec.{eqb, leb}
 use lib.IntN.{ℤ, pos, negsuc}
-use lib.ListN.{length, replicate}
+use lib.ListN.{length, getD, replicate}
 use Rattle.tree.specs.Coding.{holdAll}
 use Rattle.record.specs.declared.Block.{Block}
 use Rattle.record.specs.declared.Block.the-variants.{Nothing, Level1, Level2, Level5}
@@ -17,7 +17,7 @@ use Rattle.record.specs.declared.Record.{Record}
 use Rattle.record.specs.Blocks.{emptyRecord}
 use Rattle.valid.specs.Valid.{valid}
 use Rattle.keyed.proofs.Counted.{join-length}
-use Rattle.plan.specs.Pictures.{pictures}
+use Rattle.plan.specs.Pictures.{order, pictures}
 use Rattle.shader.specs.Shader.{convertible, conversionResult, conversionBits}
 use Rattle.track.specs.declared.Point.{Point}
 use Rattle.track.specs.Track.{number, cleared, isTrack, joinPoints, pointInForce, noneInForce, shown}
@@ -35,8 +35,11 @@ blank = record { refresh = false; count = 0; places = replicate 18 (record { blo
 pub the-empty-record-in-numbers : emptyRecord ≡ blank
 the-empty-record-in-numbers = refl
 
--- picture 0 with the empty record
-pub a-cleared-entry-in-numbers : cleared ≡ record { picture = pos 0; «record» = blank }
+-- picture 0 and segment 0 with the empty record
+abbrev nowhere : Point
+nowhere = record { picture = pos 0; segment = 0; «record» = blank }
+
+pub a-cleared-entry-in-numbers : cleared ≡ nowhere
 unfolding cleared
 a-cleared-entry-in-numbers = refl
 
@@ -70,17 +73,48 @@ a-track-in-numbers t v = (parts t v .full, parts t v .few)
 
 -- ---- a lookup
 
--- what is no track gives 16, found false and the empty record
-pub no-track-in-numbers : (t : Table) (p : ℤ) → isTrack (t .entries) (t .count) ≡ false → shownAt t p ≡ record { result = 16; found = false; «record» = blank }
+-- what is no track gives 16, found false, and a cleared point
+pub no-track-in-numbers : (t : Table) (p : ℤ) → isTrack (t .entries) (t .count) ≡ false → shownAt t p ≡ record { result = 16; found = false; point = nowhere }
+unfolding cleared
 no-track-in-numbers t p e = ap (λ (b : Bool). cond b (shown (pointInForce p (pointsIn t))) (noneInForce 16)) e
 
--- "nothing" is 0, found false and the empty record
-pub nothing-in-numbers : (t : Table) (p : ℤ) → Track t → pointInForce p (pointsIn t) ≡ none → shownAt t p ≡ record { result = 0; found = false; «record» = blank }
+-- "nothing" is 0, found false, and a cleared point: picture 0, segment 0, the empty record
+pub nothing-in-numbers : (t : Table) (p : ℤ) → Track t → pointInForce p (pointsIn t) ≡ none → shownAt t p ≡ record { result = 0; found = false; point = nowhere }
+unfolding cleared
 nothing-in-numbers t p v e = track-shows t p v ∙ ap shown e
 
--- and a point in force is 0, found true and its record
-pub a-point-in-numbers : (t : Table) (p : ℤ) (x : Point) → Track t → pointInForce p (pointsIn t) ≡ some x → shownAt t p ≡ record { result = 0; found = true; «record» = x .«record» }
+-- and a point in force is 0, found true, and its number, its segment and its record
+pub a-point-in-numbers : (t : Table) (p : ℤ) (x : Point) → Track t → pointInForce p (pointsIn t) ≡ some x → shownAt t p ≡ record { result = 0; found = true; point = record { picture = x .picture; segment = x .segment; «record» = x .«record» } }
 a-point-in-numbers t p x v e = track-shows t p v ∙ ap shown e
+
+-- ---- 02, g, by hand: segment 1 has points at 0 and 4, segment 2 at 4 and 6, of any records; at 4 both have the same one
+
+module _ (r s t : Record) where
+  abbrev from : ℕ → ℕ → Record → Point
+  from segment picture shows = record { picture = pos picture; segment = segment; «record» = shows }
+
+  abbrev first : List Point
+  first = from 1 0 r ∷ from 1 4 s ∷ []
+
+  abbrev second : List Point
+  second = from 2 4 s ∷ from 2 6 t ∷ []
+
+  -- the second's point where both hold the number, so the two joins are different tracks, though they show the same records
+  pub segments-joined-in-numbers :
+      (joinPoints first second ≡ from 1 0 r ∷ from 2 4 s ∷ from 2 6 t ∷ []) × (joinPoints second first ≡ from 1 0 r ∷ from 1 4 s ∷ from 2 6 t ∷ [])
+  unfolding order
+  segments-joined-in-numbers = (refl, refl)
+
+  pub equal-records-do-not-swap : joinPoints first second ≡ joinPoints second first → ⊥
+  unfolding order
+  equal-records-do-not-swap e = let q : _≡_ {A = ℕ} 2 1 = ap (λ (l : List Point). getD l 1 (from 0 0 r) .segment) e in omega (arith, q)
+
+  -- at 5 the second's point from 4 on is in force, at 3 the first's from 0 on, and nothing at −1
+  pub segments-in-force-in-numbers :
+      (pointInForce (pos 5) (joinPoints first second) ≡ some (from 2 4 s)) × (pointInForce (pos 3) (joinPoints first second) ≡ some (from 1 0 r))
+      × (pointInForce (negsuc 0) (joinPoints first second) ≡ none)
+  unfolding order
+  segments-in-force-in-numbers = (refl, refl, refl)
 
 -- ---- a join: 16, then 13, then 15, else 0, and no other number
 

@@ -31,7 +31,7 @@ placed-at true false e = absurd (omega arith)
 placed-at false q e = absurd (omega arith)
 
 module _ (x : Point) (old : List Point) (go : placingInto x old .result ≡ 0) where
-  placed-is : placedInto x old ≡ tableOf (padded (placedPoints x)) (length (placedPoints x))
+  pub placed-is : placedInto x old ≡ tableOf (padded (placedPoints x)) (length (placedPoints x))
   placed-is = ap (λ (k : ℕ). tableOf (cond (eqb k 0) (padded (placedPoints x)) old) (cond (eqb k 0) (length (placedPoints x)) 0)) go
 
   is-valid : valid (x .«record») ≡ true

@@ -38,6 +38,7 @@ use Rattle.sei.proofs.write_unit.Reads as write-unit-contract
 use Rattle.shader.specs.Shader.{conversionResult, conversionBits, bitsIn}
 use Rattle.shader.proofs.shader_numbers.Kinds as shader-numbers
 use Rattle.shader.proofs.shader_numbers.Reads as shader-numbers-contract
+use Rattle.track.specs.Track.{pointWith}
 use Rattle.track.specs.Lent.{tableOf, shownAt, answerInto, joinedInto, placingInto, placedInto}
 use Rattle.track.proofs.lookup as lookup
 use Rattle.track.proofs.join as join
@@ -166,7 +167,8 @@ module _ {M : Type 1} (𝓤 : URA M) (H : Heap 𝓤) (A : Atoms 𝓤) (mem : Mem
 
   pub place-is : (κs : Lfts (place.ended .signature .lifetimes)) (a : Args (place.ended .signature) κs) (g : place-clauses κs a .ghost) (x : Res (place.ended .signature) κs) (s : AtExit place.ended κs)
       → ent 𝓤 (place-clauses κs a .ensures g x s)
-      (fact 𝓤 ((x ≡ placingInto (a .0) (now (a .1 .0))) × (tableOf (now (s .1 .0)) (x .count) ≡ placedInto (a .0) (now (a .1 .0)))))
+      (fact 𝓤 ((x ≡ placingInto (pointWith (a .0) (a .1 .0) (a .1 .1 .0)) (now (a .1 .1 .1 .0)))
+      × (tableOf (now (s .1 .1 .1 .0)) (x .count) ≡ placedInto (pointWith (a .0) (a .1 .0) (a .1 .1 .0)) (now (a .1 .1 .1 .0)))))
   place-is κs a g x s = two 𝓤 _ _ _ (λ e f. (e, rw (e, f)))
 
   -- ---- and they ask nothing

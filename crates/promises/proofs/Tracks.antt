@@ -1,27 +1,30 @@
--- What is promised of tracks, under the customer's sentences: demand 1, demand 3, and document 01, Tracks. Of lent tables with their
+-- What is promised of tracks, under the customer's sentences: demand 1, demand 3, document 01, Tracks, and request g. Of lent tables with their
 -- counts, over the contracts of track::lookup, track::join and track::place (track/specs/Lent; Tied says that they are the contracts),
--- and for every picture. Statements only: Shown, Members, Joining and Placing have the lemmas that show them.
-use Prim.Native.Nat.{_<_}
+-- and for every picture. Statements only: Shown, Members, Joining, Placing and Segments have the lemmas that show them.
+use Prim.Native.Nat.{ℕ, _<_, _≤_}
 use mathlib.Core.Path.{_≡_}
 use mathlib.Core.List.{List}
 use mathlib.Core.Bool.{true, false, cond}
 use mathlib.Core.Option.{none, some}
 use lib.Dec.{leb}
-use lib.IntN.{ℤ}
-use lib.ListN.{length}
+use lib.IntN.{ℤ, pos}
+use lib.ListN.{length, getD}
+use Rattle.record.specs.declared.Record.{Record}
+use Rattle.record.specs.Blocks.{emptyRecord}
 use Rattle.keyed.specs.Keyed.{orElse, InForceAt, NotAbove}
 use Rattle.keyed.proofs.Laws.{in-force-is}
 use Rattle.plan.specs.Limit.{mostPoints}
 use Rattle.plan.specs.Pictures.{Before, pictures}
 use Rattle.track.specs.declared.Point.{Point}
-use Rattle.track.specs.Track.{number, isTrack, pointInForce, pointAtNumber, noneInForce, shown, placeTable}
+use Rattle.track.specs.Track.{number, pointWith, cleared, isTrack, pointInForce, pointAtNumber, noneInForce, shown, placeTable}
 use Rattle.track.specs.Lent.{Table, tableOf, Track, pointsIn, shownAt, startAt, answerInto, joinedInto, placingInto, placedInto}
-use Rattle.promises.specs.Joins.{Alike, Same, Greatest, AllAbove, isLater, differentNumbers, leftFirst, rightFirst, EqualWhereShared}
+use Rattle.promises.specs.Joins.{Alike, Same, Greatest, AllAbove, isLater, differentNumbers, leftFirst, rightFirst, EqualPoints, EqualWhereShared, segmentAt}
 use Rattle.promises.proofs.TrackLaws.{in-order}
 use Rattle.promises.proofs.Shown.{no-track-is-refused, track-shows, not-started, none-is-not-some, lookup-past, join-past, joined-track, held-in-joined, joined-shows}
 use Rattle.promises.proofs.Members.{found-is-the-greatest, the-greatest-is-found, not-found-all-above, all-above-not-found}
-use Rattle.promises.proofs.Joining.{same-track, refused-join, done-or-fifteen, fifteen-means, fifteen-given, groupings-answer, groupings-leave, nothing-behind, nothing-before, shared-swaps, swaps-shared}
+use Rattle.promises.proofs.Joining.{same-track, refused-join, done-or-fifteen, fifteen-means, fifteen-given, groupings-answer, groupings-leave, nothing-behind, nothing-before, equal-is, is-equal, same-held, shared-swaps, swaps-shared}
 use Rattle.promises.proofs.Placing.{refused-placing, placed-track, placed-shows-from, placed-shows-before, flag-0}
+use Rattle.promises.proofs.Segments.{segment-in-joined, segment-of-greatest, start-given, segment-of-nothing, joined-cleared, placed-cleared}
 
 -- ---- Demand 1: "A refusal returns the empty answer with every lent buffer unchanged."
 
@@ -49,7 +52,7 @@ a-join-ignores-what-lies-past = join-past
 
 -- ---- 01, Tracks: "In force at picture p: the record of the point with the greatest number not above p, or nothing."
 
--- a lookup in a track shows the record of the point in force, or nothing
+-- a lookup in a track shows the point in force, with its record, or nothing
 pub a-track-shows-what-is-in-force : (t : Table) (p : ℤ) → Track t → shownAt t p ≡ shown (pointInForce p (pointsIn t))
 a-track-shows-what-is-in-force = track-shows
 
@@ -57,14 +60,14 @@ a-track-shows-what-is-in-force = track-shows
 pub in-force-is-the-greatest-not-above : (t : Table) (p : ℤ) → Track t → InForceAt pictures number p (pointsIn t) (pointInForce p (pointsIn t))
 in-force-is-the-greatest-not-above t p v = in-force-is pictures number p (pointsIn t) (in-order t v)
 
--- the same of the table by membership, both ways. What is shown is the record of one of the track's points: its number is not above p,
+-- the same of the table by membership, both ways. What is shown is one of the track's points, with its record: its number is not above p,
 -- and no other such number is greater
 pub what-is-shown-is-the-greatest-not-above : (t : Table) (p : ℤ) → Track t → shownAt t p .found ≡ true
-    → (x : Point) × Greatest t p x × (shownAt t p ≡ record { result = 0; found = true; «record» = x .«record» })
+    → (x : Point) × Greatest t p x × (shownAt t p ≡ record { result = 0; found = true; point = x })
 what-is-shown-is-the-greatest-not-above = found-is-the-greatest
 
--- and where a point is that, its record is shown
-pub the-greatest-not-above-is-shown : (t : Table) (p : ℤ) → Track t → (x : Point) → Greatest t p x → shownAt t p ≡ record { result = 0; found = true; «record» = x .«record» }
+-- and where a point is that, it is shown
+pub the-greatest-not-above-is-shown : (t : Table) (p : ℤ) → Track t → (x : Point) → Greatest t p x → shownAt t p ≡ record { result = 0; found = true; point = x }
 the-greatest-not-above-is-shown = the-greatest-is-found
 
 -- nothing is shown exactly if every number is above p
@@ -89,7 +92,7 @@ module _ (x : Point) (old : List Point) (is-done : placingInto x old .result ≡
   pub a-placing-is-a-track : Track (placedInto x old)
   a-placing-is-a-track = placed-track x old is-done
 
-  -- with the flag 1 it shows the point's record from its picture on
+  -- with the flag 1 it shows the point, with its record, from its picture on
   pub a-placed-record-shows-from-its-picture-on : x .«record» .refresh ≡ true → (p : ℤ) → NotAbove pictures (x .picture) p → shownAt (placedInto x old) p ≡ shown (some x)
   a-placed-record-shows-from-its-picture-on = placed-shows-from x old is-done
 
@@ -116,7 +119,7 @@ a-join-holds-every-number = held-in-joined
 -- ---- Demand 3: "At every picture, two valid tracks joined show the record in force in whichever has the later or only start there, the
 -- second's if both start together, nothing if neither has started."
 
--- what the first shows where its start is the later or only one, and else what the second shows
+-- what the first shows where its start is the later or only one, and else what the second shows, segment and start with it
 pub a-join-shows-the-later-start : (a b : Table) (result : List Point) (p : ℤ) → answerInto a b result .result ≡ 0
     → shownAt (joinedInto a b result) p ≡ cond (isLater (startAt a p) (startAt b p)) (shownAt a p) (shownAt b p)
 a-join-shows-the-later-start = joined-shows
@@ -148,6 +151,10 @@ module _ (a b c : Table) (va : Track a) (vb : Track b) (vc : Track c) (s t u v :
   pub both-groupings-give-the-same-track : leftFirst a b c s t .result ≡ 0 → Same (joinedInto (joinedInto a b s) c t) (joinedInto a (joinedInto b c u) v)
   both-groupings-give-the-same-track e = same-track _ _ (both-groupings-leave-the-same e)
 
+  -- and, as request g reads it, equal points at every number: number, segment and record
+  pub both-groupings-hold-equal-points : leftFirst a b c s t .result ≡ 0 → EqualWhereShared (joinedInto (joinedInto a b s) c t) (joinedInto a (joinedInto b c u) v)
+  both-groupings-hold-equal-points e = same-held _ _ (both-groupings-leave-the-same e)
+
 -- ---- Demand 3: "An empty track changes nothing."
 
 module _ (a e : Table) (result : List Point) (va : Track a) (ve : Track e) (none-there : e .count ≡ 0) (whole : length result ≡ mostPoints) where
@@ -159,8 +166,17 @@ module _ (a e : Table) (result : List Point) (va : Track a) (ve : Track e) (none
   pub nothing-before-changes-nothing : (answerInto e a result ≡ record { result = 0; count = a .count }) × Same (joinedInto e a result) a
   nothing-before-changes-nothing = nothing-before a e result va ve none-there whole
 
+-- ---- 02, g: "Points are then equal only if number, record and segment are;"
+
+pub equal-points-are-the-same : (x y : Point) → EqualPoints x y → x ≡ y
+equal-points-are-the-same = equal-is
+
+pub the-same-points-are-equal : (x y : Point) → x ≡ y → EqualPoints x y
+the-same-points-are-equal = is-equal
+
 -- ---- 01, Tracks: "If a join fits, swapping its two tracks gives the same track exactly when both hold equal records at every number that
--- they share."
+-- they share." 02, g: "the rule for swapping a join's tracks and the grouping law read them so": equal records are equal points, segment and
+-- all; and so of the grouping law above (`both-groupings-hold-equal-points`).
 
 module _ (a b : Table) (result : List Point) (fit : answerInto a b result .result ≡ 0) where
   pub equal-where-shared-swaps : EqualWhereShared a b → (answerInto b a result ≡ answerInto a b result) × (joinedInto b a result ≡ joinedInto a b result)
@@ -171,3 +187,42 @@ module _ (a b : Table) (result : List Point) (fit : answerInto a b result .resul
 
   pub swapping-shows-them-equal : answerInto b a result .result ≡ 0 → Same (joinedInto b a result) (joinedInto a b result) → EqualWhereShared a b
   swapping-shows-them-equal = swaps-shared a b result fit
+
+-- ---- 02, g: "Every point shall carry a segment number, 0 to 65,535, given when the payload is placed."
+
+-- what is given with the record is shown with it, from its picture on
+pub a-placed-segment-is-shown : (r : Record) (picture : ℤ) (segment : ℕ) (old : List Point) → placingInto (pointWith r picture segment) old .result ≡ 0 → r .refresh ≡ true
+    → (p : ℤ) → NotAbove pictures picture p → shownAt (placedInto (pointWith r picture segment) old) p ≡ record { result = 0; found = true; point = record { picture = picture; segment = segment; «record» = r } }
+a-placed-segment-is-shown r picture segment old is-done = placed-shows-from (pointWith r picture segment) old is-done
+
+-- ---- 02, g: "Join keeps it with the point, the second track's where both hold the number;"
+
+-- with the point: `a-join-holds-every-number`, of whole points. So of the segments
+pub a-join-keeps-every-segment : (a b : Table) (result : List Point) (k : ℤ) → answerInto a b result .result ≡ 0
+    → segmentAt k (joinedInto a b result) ≡ orElse (segmentAt k b) (segmentAt k a)
+a-join-keeps-every-segment = segment-in-joined
+
+-- ---- 02, g: "lookup gives it, 0 with nothing."
+
+-- the segment of the very point whose record is in force, and its number, at which the record started
+pub a-lookup-gives-segment-and-start : (t : Table) (p : ℤ) → Track t → (x : Point) → Greatest t p x → (shownAt t p .point .segment ≡ x .segment) × (shownAt t p .point .picture ≡ x .picture)
+a-lookup-gives-segment-and-start = segment-of-greatest
+
+-- that number is the track's start there
+pub the-start-is-given : (t : Table) (p : ℤ) → Track t → shownAt t p .found ≡ true → startAt t p ≡ some (shownAt t p .point .picture)
+the-start-is-given = start-given
+
+-- where nothing is found, refused or not, all is 0, and the record is empty
+pub nothing-has-segment-0 : (t : Table) (p : ℤ) → shownAt t p .found ≡ false → (shownAt t p .point .segment ≡ 0) × (shownAt t p .point .picture ≡ pos 0) × (shownAt t p .point .«record» ≡ emptyRecord)
+nothing-has-segment-0 = segment-of-nothing
+
+-- ---- 02, g: "Cleared entries have segment 0."
+
+-- each entry past the count of a join or a placing that is done is cleared, and a cleared entry is that of Pins
+pub past-a-join-is-cleared : (a b : Table) (result : List Point) → answerInto a b result .result ≡ 0
+    → (i : ℕ) (d : Point) → joinedInto a b result .count ≤ i → i < mostPoints → getD (joinedInto a b result .entries) i d ≡ cleared
+past-a-join-is-cleared = joined-cleared
+
+pub past-a-placing-is-cleared : (x : Point) (old : List Point) → placingInto x old .result ≡ 0
+    → (i : ℕ) (d : Point) → placedInto x old .count ≤ i → i < mostPoints → getD (placedInto x old .entries) i d ≡ cleared
+past-a-placing-is-cleared = placed-cleared

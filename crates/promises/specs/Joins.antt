@@ -65,6 +65,22 @@ leftFirst a b c s t = inTurn (answerInto a b s) (answerInto (joinedInto a b s) c
 abbrev pub rightFirst : Table → Table → Table → List Point → List Point → Joined
 rightFirst a b c s t = inTurn (answerInto b c s) (answerInto a (joinedInto b c s) t)
 
--- both hold equal records at every number that they share
+-- two points are equal: number, segment and record are
+pub record EqualPoints (x y : Point) : Type 0 where
+  pub equal-numbers : x .picture ≡ y .picture
+  pub equal-segments : x .segment ≡ y .segment
+  pub equal-records : x .«record» ≡ y .«record»
+
+-- both hold equal points at every number that they share
 abbrev pub EqualWhereShared : Table → Table → Type 0
-EqualWhereShared a b = (k : ℤ) (x y : Point) → pointAtNumber k (pointsIn a) ≡ some x → pointAtNumber k (pointsIn b) ≡ some y → x .«record» ≡ y .«record»
+EqualWhereShared a b = (k : ℤ) (x y : Point) → pointAtNumber k (pointsIn a) ≡ some x → pointAtNumber k (pointsIn b) ≡ some y → EqualPoints x y
+
+-- ---- segments
+
+abbrev pub segmentOf : Option Point → Option ℕ
+segmentOf none = none
+segmentOf (some x) = some (x .segment)
+
+-- the segment of the point that a track holds at a number
+abbrev pub segmentAt : ℤ → Table → Option ℕ
+segmentAt k t = segmentOf (pointAtNumber k (pointsIn t))

@@ -5,6 +5,8 @@ use Rattle.bits.proofs.OneAnswer.{OneResult}
 use Rattle.flat.proofs.OneAnswer.{OneLater}
 use Rattle.tables.proofs.get_point.Kinds as get-point
 use Rattle.tables.proofs.get_point.Reads as get-point-contract
+use Rattle.tables.proofs.found_point.Kinds as found-point
+use Rattle.tables.proofs.found_point.Reads as found-point-contract
 use Rattle.tables.proofs.scan.Kinds as scan
 use Rattle.tables.proofs.scan.Reads as scan-contract
 use Rattle.tables.proofs.put_point.Kinds as put-point
@@ -16,6 +18,9 @@ use Rattle.tables.proofs.fill.Reads as fill-contract
 
 pub get-point-one : OneResult get-point.ps get-point.r get-point-contract.Post
 get-point-one κs a x y s t e f = e ∙ sym f
+
+pub found-point-one : OneResult found-point.ps found-point.r found-point-contract.Post
+found-point-one κs a x y s t e f = e ∙ sym f
 
 pub scan-one : OneResult scan.ps scan.r scan-contract.Post
 scan-one κs a x y s t e f = e ∙ sym f

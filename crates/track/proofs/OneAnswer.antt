@@ -59,5 +59,5 @@ module _ {M : Type 1} (𝓤 : URA M) where
     pub join-one : OneResultAndTable 𝓤 join.ended (join.clauses 𝓤 H A mem run) (λ κs s. now (s .1 .1 .1 .1 .0))
     join-one κs a g h x y s t = four _ _ _ _ ((x ≡ y) × (now (s .1 .1 .1 .1 .0) ≡ now (t .1 .1 .1 .1 .0))) (λ e e′ f f′. (e ∙ sym f, e′ ∙ sym f′))
 
-    pub place-one : OneResultAndTable 𝓤 place.ended (place.clauses 𝓤 H A mem run) (λ κs s. now (s .1 .0))
-    place-one κs a g h x y s t = four _ _ _ _ ((x ≡ y) × (now (s .1 .0) ≡ now (t .1 .0))) (λ e e′ f f′. (e ∙ sym f, e′ ∙ sym f′))
+    pub place-one : OneResultAndTable 𝓤 place.ended (place.clauses 𝓤 H A mem run) (λ κs s. now (s .1 .1 .1 .0))
+    place-one κs a g h x y s t = four _ _ _ _ ((x ≡ y) × (now (s .1 .1 .1 .0) ≡ now (t .1 .1 .1 .0))) (λ e e′ f f′. (e ∙ sym f, e′ ∙ sym f′))

@@ -12,15 +12,20 @@ use lib.Signed.{ltZ}
 use lib.ListN.{length, take, replicate, length-set}
 use lib.Seq.{take-suc-set, length-take-le}
 use Rattle.record.proofs.Laws.{and-left, and-right, and-both}
+use Rattle.record.specs.declared.Record.{Record}
 use Rattle.keyed.specs.Keyed.{Above}
 use Rattle.plan.specs.declared.Scanned.{Scanned}
 use Rattle.plan.specs.Limit.{mostPoints}
 use Rattle.plan.specs.Pictures.{Before, pictures, before-transitive}
 use Rattle.plan.specs.Scanning.{sized, extentOf, begun}
 use Rattle.track.specs.declared.Point.{Point}
-use Rattle.track.specs.Track.{number, mayStand, allStand, riseAfter, rise, isTrack, RisingPoints}
+use Rattle.track.specs.Track.{number, pointWith, mayStand, allStand, riseAfter, rise, isTrack, RisingPoints}
 use Rattle.track.specs.Inner.{pointAt, notedPoint, scannedTo, scanOf}
 use Rattle.track.proofs.Within.{sized-means}
+
+-- ---- points are equal if their numbers, their segments and their records are
+pub same-point : {p q : ℤ} {j k : ℕ} {r s : Record} → p ≡ q → j ≡ k → r ≡ s → pointWith r p j ≡ pointWith s q k
+same-point {p = p} {q = q} {j = j} {r = r} {s = s} e f g = ap (λ (x : Record). pointWith x p j) g ∙ ap (λ (z : ℤ). pointWith s z j) e ∙ ap (pointWith s q) f
 
 -- ---- the fold, by the list
 abbrev folded : Scanned → ℕ → List Point → Scanned

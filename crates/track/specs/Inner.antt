@@ -5,7 +5,6 @@ use mathlib.Core.List.{List, [], map}
 use lib.IntN.{pos}
 use lib.ListN.{length, getD, set}
 use lib.Dec.{eqb, ltb}
-use Rattle.record.specs.Blocks.{emptyRecord}
 use Rattle.plan.specs.declared.Scanned.{Scanned}
 use Rattle.plan.specs.declared.Layout.{Layout}
 use Rattle.plan.specs.declared.Sought.{Sought}
@@ -21,7 +20,7 @@ use Rattle.track.specs.Track.{mayStand, cleared, placeRefusal}
 
 -- what `getD` gives past a list's end: the value that the checker itself uses there
 abbrev pub unfilled : Point
-unfilled = record { picture = pos 0; «record» = record { refresh = false; count = 0; places = [] } }
+unfilled = record { picture = pos 0; segment = 0; «record» = record { refresh = false; count = 0; places = [] } }
 
 abbrev pub pointAt : List Point → ℕ → Point
 pointAt table i = getD table i unfilled
@@ -56,10 +55,10 @@ answerOf l = record { result = l .result; count = l .count }
 
 -- ---- lookup
 abbrev pub heldOf : Point → InForce
-heldOf p = record { result = 0; found = true; «record» = p .«record» }
+heldOf p = record { result = 0; found = true; point = p }
 
 abbrev pub missingOf : Sought → InForce
-missingOf f = record { result = f .result; found = false; «record» = emptyRecord }
+missingOf f = record { result = f .result; found = false; point = cleared }
 
 abbrev pub lookFrom : List Point → Sought → InForce
 lookFrom table f = cond (f .found) (heldOf (pointAt table (f .at))) (missingOf f)

@@ -25,9 +25,13 @@ use Rattle.track.specs.declared.Joined.{Joined}
 abbrev pub number : Point → ℤ
 number p = p .picture
 
--- in a placing and in a join, entries past the new count become picture 0 with the empty record
+-- a record of a segment, at a picture
+abbrev pub pointWith : Record → ℤ → ℕ → Point
+pointWith r picture segment = record { picture = picture; segment = segment; «record» = r }
+
+-- in a placing and in a join, entries past the new count become picture 0 and segment 0 with the empty record
 unfoldable pub cleared : Point
-cleared = record { picture = pos 0; «record» = emptyRecord }
+cleared = record { picture = pos 0; segment = 0; «record» = emptyRecord }
 
 -- a whole table: the points, and cleared entries past them
 abbrev pub padded : List Point → List Point
@@ -80,15 +84,15 @@ pointAtNumber = heldAt pictures number
 abbrev pub AgreePoints : List Point → List Point → Type 0
 AgreePoints = Agree pictures number
 
--- ---- lookup
+-- ---- lookup: the point in force, so its record, its segment and its number, which is the start; 0 and the empty record with nothing
 abbrev pub noneInForce : ℕ → InForce
-noneInForce result = record { result = result; found = false; «record» = emptyRecord }
+noneInForce result = record { result = result; found = false; point = cleared }
 
 abbrev pub shown : Option Point → InForce
 shown none = noneInForce 0
-shown (some x) = record { result = 0; found = true; «record» = x .«record» }
+shown (some x) = record { result = 0; found = true; point = x }
 
--- lookup refuses only with 16; "nothing" is found false, which no record is
+-- lookup refuses only with 16; "nothing" is found false, which no point is
 abbrev pub lookupAnswer : List Point → ℕ → ℤ → InForce
 lookupAnswer table count picture = cond (isTrack table count) (shown (pointInForce picture (pointsOf table count))) (noneInForce notATrack)
 

@@ -1,4 +1,4 @@
-// Tracks: a lent table of 64 points with a count. Placing a point, looking a picture up, joining two tracks.
+// Tracks: a lent table of 64 points with a count. Placing a record, looking a picture up, joining two tracks.
 // No table goes by value: a scan reads the lent table point by point into a small value, `plan` decides on the numbers,
 // and a fill writes the result point by point.
 use plan::Layout;
@@ -9,21 +9,23 @@ ghost use mathlib.Core.Path.{_≡_};
 ghost use Prim.Native.Nat.{_<_};
 ghost use lib.ListN.{length};
 ghost use Rattle.plan.specs.Limit.{mostPoints};
-ghost use Rattle.track.specs.Track.{cleared, mayStand, lookupAnswer, joinAnswer, joinTable, placeAnswer, placeTable};
+ghost use Rattle.track.specs.Track.{pointWith, cleared, mayStand, lookupAnswer, joinAnswer, joinTable, placeAnswer, placeTable};
 ghost use Rattle.track.specs.Inner.{notedPoint, scanOf, filledTo, answerOf, heldOf, missingOf, prepared, writeBound, entryOf, writtenTo, placeAnswerOf};
 
-// A picture number, in output order, and the record in force from there on.
+// A picture number, in output order, the number of the segment that the point came from, and the record in force from there on.
 pub struct Point {
     pub picture: i32,
+    pub segment: u16,
     pub record: Record,
 }
 
-// An entry past a track's count: picture 0 with the empty record.
+// An entry past a track's count: picture 0 and segment 0 with the empty record.
 pub fn cleared_point() -> Point
     ensures { λ r. ⌜ r ≡ cleared ⌝ }
 {
     Point {
         picture: 0,
+        segment: 0,
         record: Record::empty(),
     }
 }
@@ -99,7 +101,7 @@ fn join_answer(layout: Layout) -> Joined
     }
 }
 
-// Every number of either track in rising order, with the second's record where both hold the number.
+// Every number of either track in rising order, with the second's point where both hold the number.
 // Refusals: 16 for the first, 16 for the second, 13 for the result's table, 15 above 64 different numbers.
 pub fn join(
     first: &[Point],
@@ -118,21 +120,21 @@ pub fn join(
     join_answer(layout)
 }
 
-// The answer of a lookup: the record in force, or nothing.
+// The answer of a lookup: the point in force, with its number, at which its record has started, and its segment; or nothing, and then a
+// cleared point.
 pub struct InForce {
     pub result: u8,
     pub found: bool,
-    pub record: Record,
+    pub point: Point,
 }
 
 fn held(point: Point) -> InForce
     ensures { λ r. ⌜ r ≡ heldOf point ⌝ }
 {
-    let shown = point.record;
     InForce {
         result: 0,
         found: true,
-        record: shown,
+        point,
     }
 }
 
@@ -142,11 +144,11 @@ fn missing(sought: Sought) -> InForce
     InForce {
         result: sought.result,
         found: false,
-        record: Record::empty(),
+        point: cleared_point(),
     }
 }
 
-// The record of the point with the greatest number not above the picture, or nothing. Refuses only with 16.
+// The point with the greatest number not above the picture, or nothing. Refuses only with 16.
 pub fn lookup(table: &[Point], count: usize, picture: i32) -> InForce
     ensures answer { λ r. ⌜ r ≡ lookupAnswer (now (table .entry)) count picture ⌝ }
 {
@@ -169,11 +171,15 @@ pub struct Placing {
 }
 
 // The record is judged before the table; the flag 0 leaves no point.
-fn prepare(point: Point, entries: usize) -> Placing
-    ensures { λ r. ⌜ r ≡ prepared point entries ⌝ }
+fn prepare(r: Record, picture: i32, segment: u16, entries: usize) -> Placing
+    ensures { λ p. ⌜ p ≡ prepared (pointWith r picture segment) entries ⌝ }
 {
-    let shown = point.record;
-    if !valid::is_valid(shown) {
+    let point = Point {
+        picture,
+        segment,
+        record: r,
+    };
+    if !valid::is_valid(r) {
         return Placing {
             result: refusals::NOT_VALID,
             count: 0,
@@ -189,7 +195,7 @@ fn prepare(point: Point, entries: usize) -> Placing
     }
     Placing {
         result: 0,
-        count: shown.refresh as usize,
+        count: r.refresh as usize,
         point,
     }
 }
@@ -239,12 +245,13 @@ fn place_answer(placing: Placing) -> Placed
     }
 }
 
-// A track of one point in the lent table; with the flag 0, which says that nothing follows, the empty track.
-pub fn place(point: Point, table: &mut [Point]) -> Placed
-    ensures answer { λ r. ⌜ r ≡ placeAnswer point (length (now (table .entry))) ⌝ }
-    ensures table { λ _. ⌜ now (table .exit) ≡ placeTable (now (table .entry)) point ⌝ }
+// A track of one point in the lent table: the record, of a segment, at a picture; with the flag 0, which says that nothing follows, the
+// empty track.
+pub fn place(r: Record, picture: i32, segment: u16, table: &mut [Point]) -> Placed
+    ensures answer { λ p. ⌜ p ≡ placeAnswer (pointWith r picture segment) (length (now (table .entry))) ⌝ }
+    ensures table { λ _. ⌜ now (table .exit) ≡ placeTable (now (table .entry)) (pointWith r picture segment) ⌝ }
 {
-    let placing = prepare(point, table.len());
+    let placing = prepare(r, picture, segment, table.len());
     write(table, placing);
     place_answer(placing)
 }

@@ -1,5 +1,6 @@
 // Runs track's place, lookup and join over lent tables, on cases made by hand, and prints a line for each: what was given, and the outcome.
-// A table is printed as its count, its number of entries and the points in the count; a point as its picture and its record's number.
+// A table is printed as its count, its number of entries and the points in the count; a point as its picture, its record's number and its
+// segment. A lookup is printed with the point that it answers.
 // A table is lent as the first entries of an array of 65 points. A record is told by a number: the min_PQ of its one block, which is
 // of level 1 with avg_PQ 4,000, so that above 4,000 it is not valid; three numbers above 4,095 stand for other records.
 use record::Block;
@@ -79,10 +80,11 @@ fn record_of(code: u16) -> Record {
     level_1(true, code)
 }
 
-fn point_of(picture: i32, code: u16) -> Point {
+fn point_of(segment: u16, picture: i32, code: u16) -> Point {
     let shown = record_of(code);
     Point {
         picture,
+        segment,
         record: shown,
     }
 }
@@ -127,17 +129,21 @@ fn say_point(p: Point) {
     say_picture(p.picture);
     say(b"/");
     say_record(shown);
+    say_number(b"/", p.segment as u64);
 }
 
 fn is_cleared(p: Point) -> bool {
     let shown = p.record;
-    (p.picture == 0) & (code_of(shown) == EMPTY)
+    (p.picture == 0) & (p.segment == 0) & (code_of(shown) == EMPTY)
 }
 
 fn is_same(p: Point, q: Point) -> bool {
     let r = p.record;
     let s = q.record;
-    (p.picture == q.picture) & (r.count == s.count) & (code_of(r) == code_of(s))
+    (p.picture == q.picture)
+        & (p.segment == q.segment)
+        & (r.count == s.count)
+        & (code_of(r) == code_of(s))
 }
 
 // ---- tables
@@ -156,26 +162,27 @@ fn none() -> Table {
     }
 }
 
-// One point more.
-fn with(t: Table, picture: i32, code: u16) -> Table {
+// One point more, of a segment.
+fn with(t: Table, segment: u16, picture: i32, code: u16) -> Table {
     let mut q = t;
     let i = t.count;
     if i < ROOM {
-        q.points[i] = point_of(picture, code);
+        q.points[i] = point_of(segment, picture, code);
         q.count = i + 1;
     }
     q
 }
 
-fn one(picture: i32, code: u16) -> Table {
-    with(none(), picture, code)
+fn one(segment: u16, picture: i32, code: u16) -> Table {
+    with(none(), segment, picture, code)
 }
 
-fn two(picture: i32, code: u16, picture_2: i32, code_2: u16) -> Table {
-    with(one(picture, code), picture_2, code_2)
+fn two(segment: u16, picture: i32, code: u16, picture_2: i32, code_2: u16) -> Table {
+    with(one(segment, picture, code), segment, picture_2, code_2)
 }
 
 fn three(
+    segment: u16,
     picture: i32,
     code: u16,
     picture_2: i32,
@@ -183,15 +190,25 @@ fn three(
     picture_3: i32,
     code_3: u16,
 ) -> Table {
-    with(two(picture, code, picture_2, code_2), picture_3, code_3)
+    with(
+        two(segment, picture, code, picture_2, code_2),
+        segment,
+        picture_3,
+        code_3,
+    )
 }
 
-// Points at from, from + 1, .. with records code, code + 1, ..
-fn long(from: u8, count: u8, code: u8) -> Table {
+// Points of a segment at from, from + 1, .. with records code, code + 1, ..
+fn long(segment: u16, from: u8, count: u8, code: u8) -> Table {
     let mut t = none();
     let mut k: u8 = 0;
     while k < count {
-        t = with(t, (from as u16 + k as u16) as i32, code as u16 + k as u16);
+        t = with(
+            t,
+            segment,
+            (from as u16 + k as u16) as i32,
+            code as u16 + k as u16,
+        );
         k += 1;
     }
     t
@@ -218,7 +235,7 @@ fn counted(t: Table, count: usize) -> Table {
 
 // The points that a result's table held before: not one is cleared.
 fn used() -> Table {
-    long(200, 65, 180)
+    long(9, 200, 65, 180)
 }
 
 fn within(n: usize) -> usize
@@ -250,10 +267,16 @@ fn after_join(answer: Joined, points: [Point; ROOM]) -> Changed {
     }
 }
 
-fn placed(point: Point, mut points: [Point; ROOM], entries: usize) -> Changed
+fn placed(
+    r: Record,
+    picture: i32,
+    segment: u16,
+    mut points: [Point; ROOM],
+    entries: usize,
+) -> Changed
     requires { ⌜ entries ≤ 65 ⌝ }
 {
-    let answer = track::place(point, &mut points[..entries]);
+    let answer = track::place(r, picture, segment, &mut points[..entries]);
     after_place(answer, points)
 }
 
@@ -286,11 +309,12 @@ fn joined(
 }
 
 // ---- what a table holds afterwards
-// The next number, with the next record.
+// The next number of the same segment, with the next record.
 fn follows(p: Point, q: Point) -> bool {
     let r = p.record;
     let s = q.record;
-    (0 <= p.picture)
+    (p.segment == q.segment)
+        & (0 <= p.picture)
         & (0 <= q.picture)
         & (size_of(q.picture) == std::num::wrapping_add_u64(size_of(p.picture), 1))
         & (code_of(s) == std::num::wrapping_add_u16(code_of(r), 1))
@@ -383,29 +407,34 @@ fn say_table(t: Table) {
 }
 
 // ---- cases
-fn place(entries: usize, picture: i32, code: u16) {
-    let point = point_of(picture, code);
+fn place(entries: usize, segment: u16, picture: i32, code: u16) {
+    let r = record_of(code);
     say(b"place");
-    say_point(point);
+    say_point(point_of(segment, picture, code));
     let t = used();
     let before = t.points;
-    say_change(before, placed(point, before, within(entries)), entries);
+    say_change(
+        before,
+        placed(r, picture, segment, before, within(entries)),
+        entries,
+    );
 }
 
 fn places() {
-    place(64, 7, 100);
-    place(64, LEAST, 100);
-    place(64, GREATEST, 100);
-    place(64, 7, OFF);
-    place(64, 7, EMPTY);
-    place(64, 7, BAD);
-    place(64, 7, HIDDEN);
-    place(63, 7, 100);
-    place(65, 7, 100);
-    place(0, 7, 100);
-    place(63, 7, EMPTY);
-    place(63, 7, BAD);
-    place(65, 7, BAD);
+    place(64, 1, 7, 100);
+    place(64, 0, LEAST, 100);
+    place(64, 65535, GREATEST, 100);
+    place(64, 1, 7, OFF);
+    // the segment of a record that makes no point stands nowhere
+    place(64, 1, 7, EMPTY);
+    place(64, 1, 7, BAD);
+    place(64, 1, 7, HIDDEN);
+    place(63, 1, 7, 100);
+    place(65, 1, 7, 100);
+    place(0, 1, 7, 100);
+    place(63, 1, 7, EMPTY);
+    place(63, 1, 7, BAD);
+    place(65, 1, 7, BAD);
 }
 
 fn look_up(t: Table, picture: i32) {
@@ -416,16 +445,16 @@ fn look_up(t: Table, picture: i32) {
     let points = t.points;
     let entries = within(t.entries);
     let answer = looked_up(points, entries, t.count, picture);
-    let held = answer.record;
+    let held = answer.point;
     say_number(b": result=", answer.result as u64);
     say_number(b" found=", answer.found as u64);
-    say(b" ");
-    say_record(held);
+    say_point(held);
     say(b"\n");
 }
 
 fn lookups() {
-    let t = three(-5, 10, 0, 20, 7, 30);
+    // three points of three segments
+    let t = with(with(one(4, -5, 10), 5, 0, 20), 6, 7, 30);
     look_up(t, LEAST);
     look_up(t, -6);
     look_up(t, -5);
@@ -435,40 +464,40 @@ fn lookups() {
     look_up(t, 7);
     look_up(t, 8);
     look_up(t, GREATEST);
-    let ends = two(LEAST, 1, GREATEST, 2);
+    let ends = two(1, LEAST, 1, GREATEST, 2);
     look_up(ends, LEAST);
     look_up(ends, -2147483647);
     look_up(ends, 2147483646);
     look_up(ends, GREATEST);
     look_up(none(), 0);
-    look_up(two(0, 1, 5, OFF), 5);
-    let full = long(0, 64, 1);
+    look_up(two(1, 0, 1, 5, OFF), 5);
+    let full = long(1, 0, 64, 1);
     look_up(full, 40);
     look_up(full, 1000);
 }
 
 fn refused_lookups() {
-    let t = three(-5, 10, 0, 20, 7, 30);
+    let t = three(1, -5, 10, 0, 20, 7, 30);
     look_up(sized(t, 63), 7);
     look_up(sized(t, 65), 7);
     look_up(sized(none(), 63), 0);
     look_up(counted(t, 65), 7);
-    let many = long(0, 65, 1);
+    let many = long(1, 0, 65, 1);
     look_up(many, 40);
     look_up(sized(many, 65), 40);
-    look_up(two(5, 2, 3, 3), 5);
-    look_up(two(5, 2, 5, 3), 5);
-    look_up(two(GREATEST, 1, LEAST, 2), 0);
-    look_up(two(0, 1, 5, BAD), 0);
-    look_up(two(0, 1, 5, HIDDEN), 0);
-    look_up(two(0, 1, 5, EMPTY), 0);
+    look_up(two(1, 5, 2, 3, 3), 5);
+    look_up(two(1, 5, 2, 5, 3), 5);
+    look_up(two(1, GREATEST, 1, LEAST, 2), 0);
+    look_up(two(1, 0, 1, 5, BAD), 0);
+    look_up(two(1, 0, 1, 5, HIDDEN), 0);
+    look_up(two(1, 0, 1, 5, EMPTY), 0);
 }
 
 // What lies past the count is ignored: a later point, a number that does not rise, a record that is not valid.
 fn cut_lookups() {
-    look_up(counted(three(-5, 10, 0, 20, 7, 30), 2), 8);
-    look_up(counted(three(0, 1, 5, 2, 3, 3), 2), 9);
-    look_up(counted(three(0, 1, 5, 2, 7, BAD), 2), 9);
+    look_up(counted(three(1, -5, 10, 0, 20, 7, 30), 2), 8);
+    look_up(counted(three(1, 0, 1, 5, 2, 3, 3), 2), 9);
+    look_up(counted(three(1, 0, 1, 5, 2, 7, BAD), 2), 9);
 }
 
 fn join_in(a: Table, b: Table, before: [Point; ROOM], entries: usize) -> Changed {
@@ -512,66 +541,72 @@ fn join_of(a: Table, b: Table) -> Table {
 }
 
 fn joins() {
-    let a = three(0, 1, 4, 2, 8, 3);
-    let b = two(4, 20, 6, 30);
+    let a = three(1, 0, 1, 4, 2, 8, 3);
+    let b = two(2, 4, 20, 6, 30);
     join(a, b, 64);
     join(b, a, 64);
     join(a, a, 64);
-    join(one(5, 7), a, 64);
+    join(one(2, 5, 7), a, 64);
     let empty = none();
     join(a, empty, 64);
     join(empty, a, 64);
     join(empty, empty, 64);
-    join(one(GREATEST, 1), one(LEAST, 2), 64);
-    join(one(3, 1), one(3, OFF), 64);
+    join(one(1, GREATEST, 1), one(2, LEAST, 2), 64);
+    join(one(1, 3, 1), one(2, 3, OFF), 64);
+    // equal records of another segment: the second's
+    let d = three(65535, 0, 1, 4, 2, 8, 3);
+    join(a, d, 64);
+    join(d, a, 64);
+    // and another record of the same
+    join(one(1, 4, 20), a, 64);
     // past the counts
     join(counted(a, 2), counted(b, 1), 64);
     // three, in both groupings
-    let c = three(0, 100, 6, 200, 9, 300);
+    let c = three(3, 0, 100, 6, 200, 9, 300);
     join(join_of(a, b), c, 64);
     join(a, join_of(b, c), 64);
 }
 
 fn long_joins() {
-    let first = long(0, 40, 1);
-    join(first, long(40, 24, 101), 64);
-    join(first, long(40, 25, 101), 64);
-    join(first, long(24, 40, 101), 64);
-    join(first, long(25, 40, 101), 64);
-    let full = long(0, 64, 1);
+    let first = long(1, 0, 40, 1);
+    join(first, long(2, 40, 24, 101), 64);
+    join(first, long(2, 40, 25, 101), 64);
+    join(first, long(2, 24, 40, 101), 64);
+    join(first, long(2, 25, 40, 101), 64);
+    let full = long(1, 0, 64, 1);
     join(full, none(), 64);
-    join(full, long(0, 64, 101), 64);
-    join(full, long(64, 64, 101), 64);
+    join(full, long(2, 0, 64, 101), 64);
+    join(full, long(2, 64, 64, 101), 64);
     // 13 before 15
-    let more = one(-1, 2);
+    let more = one(2, -1, 2);
     join(full, more, 64);
     join(full, more, 63);
     join(full, more, 65);
 }
 
 fn refused_joins() {
-    let a = three(0, 1, 4, 2, 8, 3);
-    let b = two(4, 20, 6, 30);
-    let equal = two(4, 1, 4, 2);
+    let a = three(1, 0, 1, 4, 2, 8, 3);
+    let b = two(2, 4, 20, 6, 30);
+    let equal = two(3, 4, 1, 4, 2);
     join(sized(a, 63), b, 64);
     join(sized(a, 65), b, 64);
     join(counted(a, 65), b, 64);
     join(equal, b, 64);
-    join(one(4, BAD), b, 64);
-    join(one(4, EMPTY), b, 64);
+    join(one(1, 4, BAD), b, 64);
+    join(one(1, 4, EMPTY), b, 64);
     join(a, sized(b, 63), 64);
     join(a, sized(b, 65), 64);
     join(a, counted(b, 65), 64);
     join(a, equal, 64);
-    join(a, one(4, BAD), 64);
-    join(a, one(4, EMPTY), 64);
+    join(a, one(1, 4, BAD), 64);
+    join(a, one(1, 4, EMPTY), 64);
     join(equal, equal, 64);
     join(a, b, 63);
     join(a, b, 65);
     // 16 before 13 and before 15
     join(equal, b, 63);
     join(a, equal, 65);
-    join(long(0, 64, 1), equal, 64);
+    join(long(1, 0, 64, 1), equal, 64);
 }
 
 fn main() {

@@ -5,9 +5,9 @@ use mathlib.Core.Bool.{Bool, true, false, cond, _&&_}
 use native.Mathlib.Omega.{arith}
 use borrow.Author.Tests.{eqb-true}
 use lib.Dec.{eqb}
-use lib.IntN.{ℤ}
 use lib.ListN.{length}
 use mir.Syntax.{w32}
+use mir.Val.{toZ, ofZ}
 use mir.ValLaws.{toZ-ofZ}
 use Rattle.refusals.specs.Refusals.{notValid}
 use Rattle.record.specs.declared.Record.{Record}
@@ -15,7 +15,8 @@ use Rattle.record.proofs.Laws.{and-both}
 use Rattle.valid.specs.Valid.{valid}
 use Rattle.plan.specs.Limit.{mostPoints}
 use Rattle.track.specs.declared.Point.{Point}
-use Rattle.track.specs.Track.{padded, placedPoints, placeRefusal}
+use Rattle.track.specs.Track.{pointWith, padded, placedPoints, placeRefusal}
+use Rattle.track.proofs.Tracks.{same-point}
 use Rattle.flat.specs.Flat.{flatLength, recordIn}
 use Rattle.flat.proofs.Named.{length-in}
 use Rattle.tables.specs.Table.{flatTable}
@@ -29,9 +30,6 @@ use Rattle.pimlasut.proofs.pim_place.Tie as tie
 sized : (c : tie.Else1) → (isRecord (c .before .args .numbers .now) ≡ true) × (isTable (c .before .args .table .now) ≡ true)
 sized c = none-wrong (isRecord (c .before .args .numbers .now)) (isTable (c .before .args .table .now)) (c .if1 .left)
 
-abbrev point : ℤ → Record → Point
-point picture r = record { picture = picture; «record» = r }
-
 -- the record that the numbers name
 read : (c : tie.After-get-record) → c .get-record .result ≡ recordIn (c .before .before .args .numbers .now)
 read c = let l = c .before .before .args .numbers .now in c .get-record .ensures ∙ ap recordIn (whole-row l flatLength (eqb-true _ _ (sized (c .before) .0)))
@@ -39,7 +37,7 @@ read c = let l = c .before .before .args .numbers .now in c .get-record .ensures
 returns : tie.Need-returns
 returns c =
     let a = c .before .args in
-    (wrong (isRecord (a .numbers .now) && isTable (a .table .now)) (placing (a .numbers .now) (a .picture) .result) (one-wrong (isRecord (a .numbers .now)) (isTable (a .table .now)) (c .if1 .taken)), (refl, refl))
+    (wrong (isRecord (a .numbers .now) && isTable (a .table .now)) (placing (a .numbers .now) (a .picture) (a .segment) .result) (one-wrong (isRecord (a .numbers .now)) (isTable (a .table .now)) (c .if1 .taken)), (refl, refl))
 
 get-record-requires : tie.Need-get-record-requires
 get-record-requires c κs = omega (arith, eqb-true (length (c .before .args .numbers .now)) flatLength (sized c .0))
@@ -59,18 +57,18 @@ returns-2 : tie.Need-returns-2
 returns-2 c =
     let a = c .before .before .before .before .before .before .before .args in
     let r = recordIn (a .numbers .now) in
-    let x = pointNamed (a .numbers .now) (a .picture) in
+    let x = pointNamed (a .numbers .now) (a .picture) (a .segment) in
     let got = c .before .before .before .before .before .get-record .result in
     let e : got ≡ r = read (c .before .before .before .before .before) in
-    let z = toZ-ofZ w32 (a .picture) (c .before .before .before .before .before .before .before .fits .picture) in
+    let p : pointWith got (toZ w32 (ofZ w32 (a .picture))) (a .segment) ≡ x = same-point (toZ-ofZ w32 (a .picture) (c .before .before .before .before .before .before .before .fits .picture)) refl e in
     let t = sized (c .before .before .before .before .before .before) in
     let good : valid r ≡ true = sym (c .before .before .before .before .is-valid .ensures ∙ ap valid e) ∙ c .before .before .before .if2 .taken in
     let done : placeRefusal x mostPoints ≡ 0 = ap (λ (u : Bool). cond u 0 notValid) good in
     let place = c .before .place-point in (
       sym done ∙ right (isRecord (a .numbers .now) && isTable (a .table .now)) (placeRefusal x mostPoints) (and-both (isRecord (a .numbers .now)) (isTable (a .table .now)) (t .0) (t .1)),
       (
-        place .ensures .1 ∙ ap (λ (k : ℤ). flatTable (padded (placedPoints (point k got)))) z ∙ ap (λ (q : Record). flatTable (padded (placedPoints (point (a .picture) q)))) e,
-        place .ensures .0 ∙ ap (λ (k : ℤ). length (placedPoints (point k got))) z ∙ ap (λ (q : Record). length (placedPoints (point (a .picture) q))) e
+        place .ensures .1 ∙ ap (λ (q : Point). flatTable (padded (placedPoints q))) p,
+        place .ensures .0 ∙ ap (λ (q : Point). length (placedPoints q)) p
             ∙ sym (ap (λ (n : ℕ). cond (eqb n 0) (length (placedPoints x)) 0) done),
       ),
     )
@@ -79,7 +77,7 @@ returns-3 : tie.Need-returns-3
 returns-3 c =
     let a = c .before .before .before .before .args in
     let r = recordIn (a .numbers .now) in
-    let x = pointNamed (a .numbers .now) (a .picture) in
+    let x = pointNamed (a .numbers .now) (a .picture) (a .segment) in
     let e = read (c .before .before) in
     let t = sized (c .before .before .before) in
     let bad : valid r ≡ false = sym (c .before .is-valid .ensures ∙ ap valid e) ∙ c .if2 .left in (

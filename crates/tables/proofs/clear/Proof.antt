@@ -13,10 +13,10 @@ use Rattle.tables.proofs.clear.Statement.{statement}
 use Rattle.tables.proofs.clear.Tie as tie
 
 abbrev Inv-loop : tie.InvT-loop
-Inv-loop table₀ i₀ table i = (i ≤ tableLength) × (length table ≡ length table₀) × (table ≡ take i (zeroRow tableLength) ++ drop i table₀)
+Inv-loop table₀ at₀ table at = (at ≤ tableLength) × (length table ≡ length table₀) × (table ≡ take at (zeroRow tableLength) ++ drop at table₀)
 
 abbrev μ-loop : tie.MeasureT-loop
-μ-loop table₀ i₀ table i = tableLength - i
+μ-loop table₀ at₀ table at = tableLength - at
 
 loop-holds : tie.Need-loop-holds Inv-loop μ-loop
 loop-holds c = (omega arith, refl, refl)
@@ -27,8 +27,8 @@ mul-table c = omega arith
 slice-set-of-table : tie.Need-slice-set-of-table Inv-loop μ-loop
 slice-set-of-table c = omega arith
 
-add-i : tie.Need-add-i Inv-loop μ-loop
-add-i c = omega arith
+add-at : tie.Need-add-at Inv-loop μ-loop
+add-at c = omega arith
 
 loop-less : tie.Need-loop-less Inv-loop μ-loop
 loop-less c = omega arith
@@ -39,11 +39,11 @@ loop-again c =
     let d = c .before .before .args .table .now in
     let z = zeroRow tableLength in (
       omega arith,
-      length-set (l .table) (l .i) (pos 0) ∙ l .inv .1,
-      ap (λ (t : List ℤ). set t (l .i) (pos 0)) (l .inv .2)
-          ∙ ap (λ (x : ℤ). set (take (l .i) z ++ drop (l .i) d) (l .i) x) (sym (zeros-at tableLength (l .i) (omega arith)))
-          ∙ copy-more z d (l .i) (omega (arith, length-zeros tableLength)) (omega (arith, c .before .before .pre))
-          ∙ rw (add-one (l .i)),
+      length-set (l .table) (l .at) (pos 0) ∙ l .inv .1,
+      ap (λ (t : List ℤ). set t (l .at) (pos 0)) (l .inv .2)
+          ∙ ap (λ (x : ℤ). set (take (l .at) z ++ drop (l .at) d) (l .at) x) (sym (zeros-at tableLength (l .at) (omega arith)))
+          ∙ copy-more z d (l .at) (omega (arith, length-zeros tableLength)) (omega (arith, c .before .before .pre))
+          ∙ rw (add-one (l .at)),
     )
 
 same-length : tie.Need-same-length Inv-loop μ-loop
@@ -53,7 +53,7 @@ returns : tie.Need-returns Inv-loop μ-loop
 returns c =
     let l = c .before .loop in
     let d = c .before .before .args .table .now in
-    let e : l .i ≡ tableLength = omega arith in
+    let e : l .at ≡ tableLength = omega arith in
     l .inv .2 ∙ ap (λ (k : ℕ). take k (zeroRow tableLength) ++ drop k d) e ∙ all-zeros d tableLength (c .before .before .pre)
 
 pub clear-spec : {M : Type 1} → statement M
@@ -65,7 +65,7 @@ clear-spec =
     loop-holds
     mul-table
     slice-set-of-table
-    add-i
+    add-at
     loop-less
     loop-again
     same-length

@@ -42,13 +42,19 @@ source-at-requires c κs =
 chosen-requires : tie.Need-chosen-requires Inv-loop μ-loop
 chosen-requires c κs = search needs
 
+mul-put-point : tie.Need-mul-put-point Inv-loop μ-loop
+mul-put-point c =
+    let b = bound-le (c .before .before .before .before .before .before .args .layout) in
+    let e = c .before .before .before .before .before .bound .ensures in
+    omega arith
+
 put-point-requires : tie.Need-put-point-requires Inv-loop μ-loop
 put-point-requires c κs =
     let s = c .before .before .before .before .before .before in
     let l = c .before .before .before .before .loop in
     let b = bound-le (s .args .layout) in
     let e = c .before .before .before .before .before .bound .ensures in
-    (l .inv .1 ∙ s .pre .0, omega arith)
+    omega (arith, l .inv .1, s .pre .0)
 
 add-k : tie.Need-add-k Inv-loop μ-loop
 add-k c = omega arith
@@ -110,6 +116,7 @@ fill-spec =
     loop-holds
     source-at-requires
     chosen-requires
+    mul-put-point
     put-point-requires
     add-k
     loop-less

@@ -9,7 +9,7 @@ use Rattle.track.proofs.cleared_point.Statement.{statement}
 use Rattle.track.proofs.cleared_point.Tie as tie
 
 abbrev atZero : Record → Point
-atZero r = record { picture = pos 0; «record» = r }
+atZero r = record { picture = pos 0; segment = 0; «record» = r }
 
 empty-requires : tie.Need-empty-requires
 empty-requires c κs = search needs

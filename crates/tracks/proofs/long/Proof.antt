@@ -6,10 +6,10 @@ use Rattle.tracks.proofs.long.Statement.{statement}
 use Rattle.tracks.proofs.long.Tie as tie
 
 abbrev Inv-loop : tie.InvT-loop
-Inv-loop from count code t₀ k₀ t k = k ≤ count
+Inv-loop segment from count code t₀ k₀ t k = k ≤ count
 
 abbrev μ-loop : tie.MeasureT-loop
-μ-loop from count code t₀ k₀ t k = count - k
+μ-loop segment from count code t₀ k₀ t k = count - k
 
 none-requires : tie.Need-none-requires Inv-loop μ-loop
 none-requires c κs = search needs
