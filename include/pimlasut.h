@@ -193,7 +193,7 @@ enum {
                                in range */
     PIM_MANY_POINTS = 15,   /* a join has more than 64 different numbers */
     PIM_NOT_TRACK = 16,     /* not a track: count above 64, numbers not rising, a point's record not valid with flag 1, or
-                               numbers that stand for no point, as a segment that is no uint16_t does (a table that has not
+                               numbers that stand for no point, as where the segment is no uint16_t (a table that has not
                                exactly 64 entries is refused with 13 here) */
     PIM_SECOND_LEVEL_1 = 17,
     PIM_SECOND_LEVEL_5 = 18,

@@ -26,9 +26,9 @@ row segment = negsuc 4 ∷ segment ∷ pos 1 ∷ replicate 145 (pos 0)
 pub sizes-in-numbers : (pointLength ≡ 148) × (tableLength ≡ 9472)
 sizes-in-numbers = (refl, refl)
 
-pub a-point-in-numbers : flatPoint there ≡ row (pos 3)
+pub a-point-as-a-row : flatPoint there ≡ row (pos 3)
 unfolding flatPoint flat rowsOf
-a-point-in-numbers = refl
+a-point-as-a-row = refl
 
 -- and back; as the second entry of a row, too
 pub numbers-name-a-point : (pointIn (row (pos 3)) 0 ≡ there) × (pointIn (row (pos 7) ++ row (pos 3)) 1 ≡ there)
