@@ -29,21 +29,21 @@ extern "C" {
 #endif
 
 /*
- * What a call takes of the stack, at most, its return address with it, whatever the input: the deepest path through the
- * archive's code (bench/stack.py), rounded up to the next 64. What memcpy and memset take beside it is the C library's.
+ * What a call takes of the stack, at most, its return address with it. Measured, not proved (docs/BENCH.md), of the optimised
+ * build for x86-64, and rounded up to the next 64.
  *
  *   stack, bytes
- *   pim_read_bare       1664
- *   pim_read_wrapped    2048
- *   pim_why_wrapped     2496
- *   pim_write_bare      768
- *   pim_write_wrapped   768
- *   pim_read_unit       6272
- *   pim_write_unit      1088
+ *   pim_read_bare       1600
+ *   pim_read_wrapped    1984
+ *   pim_why_wrapped     ?
+ *   pim_write_bare      2048
+ *   pim_write_wrapped   2048
+ *   pim_read_unit       6208
+ *   pim_write_unit      2304
  *   pim_shader          64
- *   pim_place           192
- *   pim_lookup          704
- *   pim_join            1408
+ *   pim_place           1344
+ *   pim_lookup          1920
+ *   pim_join            2560
  */
 
 /*

@@ -15,17 +15,6 @@ build() { # FILE
     { echo '#!/bin/sh'; printf '%q ' exec "${run[@]}" "$room/$name.x86-64"; echo '"$@"'; } >"$room/$name"
     chmod +x "$room/$name"
 }
-# What the header says of the stack is not less than the archive's code takes by any path, nor so much that it says nothing; and all but
-# the reading of a unit take less than 4 KiB.
-needs python3 python3
-python3 bench/stack.py "$room/lib/libpimlasut.a" >"$room/stack" || stop "bench/stack.py fails"
-while read -r name bytes; do
-    said=$(sed -n "s/^ \*   $name  *\([0-9]*\)\$/\1/p" include/pimlasut.h)
-    [ "$bytes" -le "${said:-0}" ] && [ "$said" -le $((bytes + 256)) ] || differs "include/pimlasut.h: $name takes $bytes bytes of stack, and the header says ${said:-nothing}"
-    [ "$name" = pim_read_unit ] || [ "$bytes" -lt 4096 ] || differs "$name takes $bytes bytes of stack: 4 KiB or more"
-done <"$room/stack"
-[ "$(wc -l <"$room/stack")" -eq "$(grep -c '^uint32_t pim_' include/pimlasut.h)" ] || differs "bench/stack.py does not tell the stack of every function"
-
 build examples/trims.c
 build examples/film.c
 build tests/boundary.c

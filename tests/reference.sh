@@ -95,7 +95,7 @@ for name in sorted(for_c | set(seen)):
 
 # ---- the header: its functions, and a line of stack for each
 declared = set(re.findall(r'^uint32_t (pim_\w+)\(', header, re.M))
-stacks = re.findall(r'^ \*   (pim_\w+) +(\d+)$', header.partition('stack, bytes\n')[2].partition('*/')[0], re.M)
+stacks = re.findall(r'^ \*   (pim_\w+) +(\d+|\?)$', header.partition('stack, bytes\n')[2].partition('*/')[0], re.M)
 for name in sorted(for_c ^ declared):
     faults.append(f'include/pimlasut.h: {name} is declared there or in crates/pimlasut, and not in both')
 for name in sorted(declared):

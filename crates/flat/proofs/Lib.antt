@@ -2,5 +2,4 @@ pub mod Numbers
 pub mod Rows
 pub mod Places
 pub mod Named
-pub mod Judged
 pub mod OneAnswer

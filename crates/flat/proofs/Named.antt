@@ -81,7 +81,7 @@ block_named_lem (Level5 l r t b) h =
 
 -- ---- every record whose fields fit their types is named by its own numbers
 
-pub every_at : (test : Block → Bool) (bs : List Block) (i : ℕ) (d : Block) → every test bs ≡ true → i < length bs → test (get_or bs i d) ≡ true
+every_at : (test : Block → Bool) (bs : List Block) (i : ℕ) (d : Block) → every test bs ≡ true → i < length bs → test (get_or bs i d) ≡ true
 unfolding every
 every_at test [] i d h l = absurd (not-suc-le-zero l)
 every_at test (b ∷ bs) zero d h l = and_left (test b) (every test bs) h
@@ -191,11 +191,11 @@ length_in l = go (names l)
 
 -- ---- a valid record fits its types
 
-abbrev pub Narrow : List Coding → Type 0
+abbrev Narrow : List Coding → Type 0
 Narrow [] = Unit {0}
 Narrow (c ∷ cs) = (width_of c ≤ 16) × Narrow cs
 
-pub narrow_holds : (c : Coding) (z : ℤ) → width_of c ≤ 16 → holds c z ≡ true → holds (type_of c) z ≡ true
+narrow_holds : (c : Coding) (z : ℤ) → width_of c ≤ 16 → holds c z ≡ true → holds (type_of c) z ≡ true
 narrow_holds (unsigned n) (pos v) h e = lt-ltb v 65536 (omega (arith, ltb-true v (2 ^ n) e, pow_mono {j = 16} h))
 narrow_holds (unsigned n) (negsuc v) h e = e
 narrow_holds (signed n) (pos v) h e = lt-ltb v 32768 (omega (arith, ltb-true v (2 ^ (n - 1)) e, pow_mono {i = n - 1} {j = 15} (omega arith)))

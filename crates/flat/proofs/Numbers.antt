@@ -1,5 +1,5 @@
 -- A signed number of 32 bits that is to fit a smaller type: what the two tests of its range say.
-use Prim.Native.Nat.{ℕ, ◌-◌, ◌^◌, ◌<◌, ◌≤◌}
+use Prim.Native.Nat.{ℕ, ◌-◌, ◌^◌, ◌<◌}
 use mathlib.Core.Path.{◌≡◌, refl, sym, ap, ◌∙◌}
 use mathlib.Core.Bool.{Bool, true, false, cond}
 use native.Mathlib.Omega.{arith}
@@ -8,7 +8,7 @@ use lib.Dec.{T}
 use lib.IntN.{ℤ, pos, negsuc, nat_abs}
 use lib.Pow.{pow_pos}
 use lib.Signed.{le_z, non_neg, mag}
-use mir.Syntax.{Width, w16, w32, w64}
+use mir.Syntax.{Width, w16, w32}
 use mir.Val.{to_z, of_z, bits, Fits, SFits}
 use mir.ValLaws.{to_z-of_z, to_z_pos}
 use Rattle.tree.specs.Coding.{signed, holds}
@@ -42,15 +42,6 @@ module _ (w : Width) (z : ℤ) (f : SFits w32 z) where
       go : (z : ℤ) → le_z z (pos (2 ^ bits w - 1)) ≡ false → 0 ≡ unsigned_in (bits w) z
       go (pos v) h = sym (ap (λ (b : Bool). cond b v 0) (le-ltb v (2 ^ bits w) (omega (arith, leb-false v (2 ^ bits w - 1) h))))
       go (negsuc v) h = refl
-
--- a number from 0 to a few, as a count of 64 bits
-pub counted : (z : ℤ) (n : ℕ) → SFits w32 z → n < 2 ^ 64 → le_z (pos 0) (to_z w32 (of_z w32 z)) ≡ true → le_z (to_z w32 (of_z w32 z)) (pos n) ≡ true
-    → (T (non_neg (to_z w32 (of_z w32 z))) × Fits w64 (nat_abs (to_z w32 (of_z w32 z)))) × (nat_abs (to_z w32 (of_z w32 z)) ≤ n) × (z ≡ pos (nat_abs (to_z w32 (of_z w32 z))))
-counted z n f small h k = rw (to_z-of_z w32 z f) (go z (rw (to_z-of_z w32 z f) at h) (rw (to_z-of_z w32 z f) at k))
-  where
-    go : (z : ℤ) → le_z (pos 0) z ≡ true → le_z z (pos n) ≡ true → (T (non_neg z) × Fits w64 (nat_abs z)) × (nat_abs z ≤ n) × (z ≡ pos (nat_abs z))
-    go (pos v) h k = let l = leb-true v n k in ((tt, record { fits = omega (arith, l, small) }), l, refl)
-    go (negsuc v) h k = let z : ◌≡◌ {A = ℕ} 0 1 = cc in absurd (omega arith)
 
 module _ (z : ℤ) (f : SFits w32 z) where
   abbrev shown : ℤ

@@ -100,6 +100,9 @@ each_more f b d i h =
 abbrev pub read_to : List ℤ → ℕ → Record
 read_to l i = record { refresh = same_number (number_at l 0) (pos 1); count = unsigned_in 8 (number_at l 1); places = each (place_in l) i ++ drop i (replicate most_blocks empty_place) }
 
+abbrev pub named_to : List ℤ → ℕ → Bool
+named_to l i = names_head l && always (λ j. names_block (place_numbers l j)) i
+
 pub read_more : (l : List ℤ) (i : ℕ) (r : Record) (b : Block) → i < most_blocks → r ≡ read_to l i → b ≡ block_said (place_numbers l i)
     → record { refresh = r.refresh; count = r.count; places = set r.places i (place_with b) } ≡ read_to l (i + 1)
 read_more l i r b h e f =
@@ -108,20 +111,58 @@ read_more l i r b h e f =
     ∙ ap (λ (ps : List Place). record { refresh = (read_to l i).refresh; count = (read_to l i).count; places = ps }) (each_more (place_in l) (replicate most_blocks empty_place) empty_place i h)
     ∙ ap (read_to l) (sym (add-one i))
 
+pub named_more : (beside : Bool) (l : List ℤ) (i : ℕ) (t u : Bool) → t ≡ beside && named_to l i → u ≡ names_block (place_numbers l i) → t && u ≡ beside && named_to l (i + 1)
+unfolding always
+named_more beside l i t u e f =
+    rw (e, f, add-one i) (and_assoc beside (named_to l i) (names_block (place_numbers l i))
+    ∙ ap (λ (b : Bool). beside && b) (and_assoc (names_head l) (always (λ j. names_block (place_numbers l j)) i) (names_block (place_numbers l i))))
+
+-- after all of them
+read_named : (l : List ℤ) (r : Record) → r ≡ read_to l most_blocks → named_to l most_blocks ≡ true → r ≡ record_in l
+unfolding record_in names said
+read_named l r e h =
+    e ∙ ap (λ (ps : List Place). record { refresh = (read_to l 0).refresh; count = (read_to l 0).count; places = ps }) (append-nil (each (place_in l) most_blocks))
+    ∙ sym (ap (λ (t : Bool). cond t (said l) unnamed_record) h)
+
+not_named : (l : List ℤ) → named_to l most_blocks ≡ false → unnamed_record ≡ record_in l
+unfolding record_in names
+not_named l h = sym (ap (λ (t : Bool). cond t (said l) unnamed_record) h)
+
+pub read_beside : (beside : Bool) (l : List ℤ) (r : Record) → r ≡ read_to l most_blocks → beside && named_to l most_blocks ≡ true → r ≡ record_beside beside l
+read_beside true l r e h = read_named l r e h
+read_beside false l r e h = let z : ◌≡◌ {A = ℕ} 0 1 = cc in absurd (omega arith)
+
+pub not_beside : (beside : Bool) (l : List ℤ) → beside && named_to l most_blocks ≡ false → unnamed_record ≡ record_beside beside l
+not_beside true l h = not_named l h
+not_beside false l h = refl
+
 -- ---- the flag and the count
 
-pub two_of : (l : List ℤ) → 2 ≤ length l → take 2 l ≡ number_at l 0 ∷ number_at l 1 ∷ []
+two_of : (l : List ℤ) → 2 ≤ length l → take 2 l ≡ number_at l 0 ∷ number_at l 1 ∷ []
 two_of [] h = absurd (omega arith)
 two_of (x ∷ []) h = absurd (omega arith)
 two_of (x ∷ y ∷ l) h = refl
 
-pub number_in : (row : List ℤ) (at n k : ℕ) → k < n → number_at (take n (drop at row)) k ≡ number_at row (at + k)
-number_in row at n k h = get_or-take n (drop at row) k (pos 0) h ∙ get_or-drop at row k (pos 0)
+pub number_in : (row : List ℤ) (at k : ℕ) → k < flat_length → number_at (take flat_length (drop at row)) k ≡ number_at row (at + k)
+number_in row at k h = get_or-take flat_length (drop at row) k (pos 0) h ∙ get_or-drop at row k (pos 0)
 
 -- what the code compares, of numbers x and y
 module _ (l : List ℤ) (x y : ℤ) (f : SFits w32 x) (g : SFits w32 y) (long : 2 ≤ length l) (first : number_at l 0 ≡ x) (second : number_at l 1 ≡ y) where
   pub flag_is : eqb (of_z w32 x) 1 ≡ same_number (number_at l 0) (pos 1)
   flag_is = same_bits x (pos 1) f (sfits_lit tt) ∙ ap (λ (z : ℤ). same_number z (pos 1)) (sym first)
+
+  by_flag : (t : Bool) → eqb (of_z w32 x) (bool_byte t) ≡ same_number x (pos (bit t))
+  by_flag true = same_bits x (pos 1) f (sfits_lit tt)
+  by_flag false = same_bits x (pos 0) f (sfits_lit tt)
+
+  pub head_is : (count : ℕ) → count < 256 → count ≡ unsigned_in 8 y → eqb (of_z w32 x) (bool_byte (eqb (of_z w32 x) 1)) && eqb (of_z w32 y) count ≡ names_head l
+  unfolding same_row
+  head_is count small e =
+      let a : eqb (of_z w32 x) (bool_byte (eqb (of_z w32 x) 1)) ≡ same_number (number_at l 0) (pos (bit (same_number (number_at l 0) (pos 1)))) =
+      by_flag (eqb (of_z w32 x) 1) ∙ ap (λ (t : Bool). same_number x (pos (bit t))) flag_is ∙ ap (λ (z : ℤ). same_number z (pos (bit (same_number (number_at l 0) (pos 1))))) (sym first) in
+      let b : eqb (of_z w32 y) count ≡ same_number (number_at l 1) (pos (unsigned_in 8 (number_at l 1))) =
+      same_bits y (pos count) g (record { sfits = omega arith }) ∙ ap (λ (n : ℕ). same_number y (pos n)) e ∙ ap (λ (z : ℤ). same_number z (pos (unsigned_in 8 z))) (sym second) in
+      rw (a, b, two_of l long) (ap (λ (t : Bool). same_number (number_at l 0) (pos (bit (same_number (number_at l 0) (pos 1)))) && t) (sym (and-true _)))
 
 flag_wide : (t : Bool) → to_z w32 (bool_byte t) ≡ pos (bit t)
 flag_wide true = refl

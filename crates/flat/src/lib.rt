@@ -1,13 +1,10 @@
 // A record as a row of numbers, for callers that have no Record.
-ghost use Rattle.std.specs.Prelude.{◌≡◌, true, ◌&&◌, [], ◌+◌, ◌-◌, ◌*◌, ◌≤◌, length, take, drop};
+ghost use Rattle.std.specs.Prelude.{◌≡◌, ◌+◌, ◌*◌, ◌≤◌, length, take, drop};
 ghost use Rattle.std.proofs.Math.Seq.{paste};
-ghost use Rattle.record.specs.Blocks.{most_blocks, all_blocks};
-ghost use Rattle.valid.specs.Valid.{valid_block, well_formed, valid};
-ghost use Rattle.flat.specs.Flat.{place_length, flat_length, flat_block, flat_places, flat, same_row, unsigned_in, signed_in, block_said, names_block, block_named, place_numbers, always, said, record_in};
-ghost use Rattle.flat.specs.Judged.{all_within, good_level1, good_level2, good_level5, good_block, good_blocks};
+ghost use Rattle.record.specs.Blocks.{most_blocks};
+ghost use Rattle.flat.specs.Flat.{place_length, flat_length, flat_block, flat_places, flat, same_row, unsigned_in, signed_in, block_said, block_named, unnamed_record, record_in, record_beside};
 
 use record::{Block, Place, Record};
-use valid::Met;
 
 // How many numbers a place has, and a record: the flag, the count and its places.
 pub const PLACE: usize = 8;
@@ -29,7 +26,7 @@ fn byte(number: i32) -> u8
 }
 
 // The number where a u16 holds it, and else 0.
-fn unsigned(number: i32) -> u16
+pub fn unsigned(number: i32) -> u16
     ensures { result ≡ unsigned_in 16 number }
 {
     if 0 <= number {
@@ -211,128 +208,46 @@ pub fn put_record(row: &mut [i32], at: usize, r: Record)
     put_places(row, at, r);
 }
 
-// ---- a record that is judged where its numbers lie
-
-// Whether each number from a place of a row up to another is 0 to `most`.
-fn within(row: &[i32], from: usize, end: usize, most: i32) -> bool
-    requires { (from ≤ end) × (end ≤ length row.now) }
-    ensures { result ≡ all_within most (take (end - from) (drop from row.now)) }
+// A record that is not valid.
+fn not_valid() -> Record
+    ensures { result ≡ unnamed_record }
 {
-    let mut all = true;
-    let mut k = from;
-    while k < end {
-        let number = row[k];
-        all = all & ((0 <= number) & (number <= most));
-        k += 1;
-    }
-    all
+    let mut r = Record::empty();
+    r.count = 1;
+    r
 }
 
-// Behind the level of a place: the fields, each as its width holds it, in level 1 their order, and zeros.
-fn is_level1(row: &[i32], at: usize) -> bool
-    requires { at + place_length ≤ length row.now }
-    ensures { result ≡ good_level1 (take place_length (drop at row.now)) }
-{
-    let min = row[at + 1];
-    let max = row[at + 2];
-    let avg = row[at + 3];
-    (within(row, at + 1, at + 4, 4095) & within(row, at + 4, at + PLACE, 0))
-        & ((min <= avg) & (avg <= max))
-}
-
-fn is_level2(row: &[i32], at: usize) -> bool
-    requires { at + place_length ≤ length row.now }
-    ensures { result ≡ good_level2 (take place_length (drop at row.now)) }
-{
-    let weight = row[at + 7];
-    within(row, at + 1, at + 7, 4095) & ((-4096 <= weight) & (weight <= 4095))
-}
-
-fn is_level5(row: &[i32], at: usize) -> bool
-    requires { at + place_length ≤ length row.now }
-    ensures { result ≡ good_level5 (take place_length (drop at row.now)) }
-{
-    within(row, at + 1, at + 5, 8191) & within(row, at + 5, at + PLACE, 0)
-}
-
-// Whether eight numbers name a block that meets the clauses for one block.
-fn is_block(row: &[i32], at: usize) -> bool
-    requires { at + place_length ≤ length row.now }
-    ensures { result ≡ good_block (take place_length (drop at row.now)) }
-{
-    let level = row[at];
-    if level == 1 {
-        return is_level1(row, at);
-    }
-    if level == 2 {
-        return is_level2(row, at);
-    }
-    if level == 5 {
-        return is_level5(row, at);
-    }
-    false
-}
-
-// Whether the first n places hold blocks that may stand together.
-fn are_blocks(row: &[i32], at: usize, n: usize) -> bool
-    requires { (at + flat_length ≤ length row.now) × (n ≤ most_blocks) }
-    ensures { result ≡ good_blocks (take flat_length (drop at row.now)) n }
-{
-    let mut seen = Met::nothing();
-    let mut targets: [u16; 17] = [valid::NO_TARGET; 17];
-    let mut i: usize = 0;
-    while i < n {
-        let place = at + 2 + PLACE * i;
-        if !is_block(row, place) {
-            return false;
-        }
-        let block = block_of(eight_at(row, place));
-        if !valid::admits(seen, &targets, block) {
-            return false;
-        }
-        let k = seen.twos as usize;
-        targets[k] = valid::target_of(block);
-        seen = valid::including(seen, block);
-        i += 1;
-    }
-    true
-}
-
-// Whether the numbers from a place of a row on name a valid record. No record is made of them.
-pub fn is_valid(row: &[i32], at: usize) -> bool
+// The record that the numbers from a place of a row on name, or one that is not valid where they name none, or where what stands beside
+// them names nothing. (That is asked here, and not by the caller, so that a record is built at one place and not copied.)
+pub fn get_beside(row: &[i32], at: usize, beside: bool) -> Record
     requires { at + flat_length ≤ length row.now }
-    ensures { result ≡ valid (record_in (take flat_length (drop at row.now))) }
-{
-    let flag = row[at];
-    let number = row[at + 1];
-    if 0 <= number {
-        if number <= BLOCKS as i32 {
-            let n = number as usize;
-            let rest = at + 2 + PLACE * n;
-            return ((flag == 1) | ((flag == 0) & (n == 0)))
-                & are_blocks(row, at, n)
-                & within(row, rest, at + NUMBERS, 0);
-        }
-    }
-    false
-}
-
-// The valid record that the numbers from a place of a row on name.
-pub fn get_valid(row: &[i32], at: usize) -> Record
-    requires { (at + flat_length ≤ length row.now) × (valid (record_in (take flat_length (drop at row.now))) ≡ true) }
-    ensures { result ≡ record_in (take flat_length (drop at row.now)) }
+    ensures { result ≡ record_beside beside (take flat_length (drop at row.now)) }
 {
     let flag = row[at];
     let number = row[at + 1];
     let count = byte(number);
-    let mut r = Record::without_blocks(flag == 1);
+    let refresh = flag == 1;
+    let mut r = Record::without_blocks(refresh);
     r.count = count;
-    let n = count as usize;
+    let mut named = beside & ((flag == refresh as i32) & (number == count as i32));
     let mut i: usize = 0;
-    while i < n {
-        let block = block_of(eight_at(row, at + 2 + PLACE * i));
+    while i < BLOCKS {
+        let eight = eight_at(row, at + 2 + PLACE * i);
+        let block = block_of(eight);
+        named = named & are_equal(eight, eight_of(block));
         r.places[i] = Place { block };
         i += 1;
     }
-    r
+    if named {
+        return r;
+    }
+    not_valid()
+}
+
+// The same, with nothing beside.
+pub fn get_record(row: &[i32], at: usize) -> Record
+    requires { at + flat_length ≤ length row.now }
+    ensures { result ≡ record_in (take flat_length (drop at row.now)) }
+{
+    get_beside(row, at, true)
 }

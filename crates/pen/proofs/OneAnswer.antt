@@ -5,10 +5,6 @@ use Rattle.pen.proofs.Pen.start.Kinds as start
 use Rattle.pen.proofs.Pen.start.Reads as start-contract
 use Rattle.pen.proofs.zeros_of.Kinds as zeros_of
 use Rattle.pen.proofs.zeros_of.Reads as zeros-of-contract
-use Rattle.pen.proofs.to_unsigned.Kinds as to-unsigned
-use Rattle.pen.proofs.to_unsigned.Reads as to-unsigned-contract
-use Rattle.pen.proofs.put_word.Kinds as put_word
-use Rattle.pen.proofs.put_word.Reads as put-word-contract
 use Rattle.pen.proofs.put_u.Kinds as put-u
 use Rattle.pen.proofs.put_u.Reads as put-u-contract
 use Rattle.pen.proofs.put_i.Kinds as put-i
@@ -24,12 +20,6 @@ start_one κs a x y s t e f = e ∙ sym f
 
 pub zeros_of_one : OneResult zeros_of.ps zeros_of.r zeros-of-contract.Post
 zeros_of_one κs a x y s t e f = e ∙ sym f
-
-pub to_unsigned_one : OneResult to-unsigned.ps to-unsigned.r to-unsigned-contract.Post
-to_unsigned_one κs a x y s t e f = e ∙ sym f
-
-pub put_word_one : OneResultAndBuffer put_word.ps put_word.r put-word-contract.Post (λ κs s. s.0.now)
-put_word_one κs a x y s t b c e f = wrote_one b c e f
 
 pub put_u_one : OneResultAndBuffer put-u.ps put-u.r put-u-contract.Post (λ κs s. s.0.now)
 put_u_one κs a x y s t b c e f = wrote_one b c e f

@@ -1,92 +1,32 @@
--- Laws of the pen: the codes of numbers one behind another, bytes, words, one writing behind another, and that a statement of what was written
--- admits one answer.
-use Prim.Native.Nat.{ℕ, zero, suc, ◌+◌, ◌-◌, ◌*◌, ◌/◌, ◌%◌, ◌^◌, ◌<◌, ◌≤◌}
+-- Laws of the pen: one bit, one writing behind another, and that a statement of what was written admits one answer.
+use Prim.Native.Nat.{ℕ, suc, ◌+◌, ◌-◌, ◌*◌, ◌/◌, ◌%◌, ◌^◌, ◌<◌, ◌≤◌}
 use mathlib.Core.Path.{◌≡◌, refl, ap, sym, ◌∙◌}
 use mathlib.Core.List.{List, [], ◌∷◌, ◌++◌, append_assoc, append-nil}
 use mathlib.Core.Bool.{Bool, true, false}
 use native.Mathlib.Omega.{arith}
 use native.Mathlib.Numerals.{add-one}
-use native.Mathlib.Nat.{add-zero, one-mul, pow-succ', div-one, add-mul, mul_assoc, mod-lt, lt_of_lt_of_le}
-use lib.Count.{count_leading_zeros, leading_top}
+use native.Mathlib.Nat.{pow-succ', div-one, add-mul, mul_assoc, mod-lt}
 use lib.ListN.{length, take, drop, set, replicate, length-set, length-append, length-take, take-append-drop}
 use lib.Seq.{take-suc-set, drop-set-lt, take_at, drop_at}
-use lib.Pow.{shr-shr, pow_mono, pow_pos, high, low, field, mod-mod-pow, shl_lt, shl_exact, add-lt-pow}
+use lib.Pow.{shr-shr, pow_mono, pow_pos, split}
 use Rattle.tree.specs.Bits.{bits_of, code, odd, value, value_from, bit, Bytes}
 use Rattle.tree.specs.Codes.{zeros_of, ue_code}
 use Rattle.tree.proofs.Lists.{later_on, bytes_take}
-use Rattle.tree.proofs.Bits.{length-code, length_bits, bits_append, bits_determine, code-zero, code-value, value-code}
+use Rattle.tree.proofs.Bits.{length-code, length_bits, bits_append, bits_determine, code-value, value-code}
 use Rattle.tree.proofs.Elements.{zeros_law, zeros_is}
 use Rattle.pen.specs.declared.Pen.{Pen}
-use Rattle.pen.specs.Writing.{bits_written, start_pen, Sound, RoomForBits, Wrote, Stored}
+use Rattle.pen.specs.Writing.{bits_written, start_pen, Sound, RoomForBits, Wrote}
 
--- 1 << k in 64 bits, and that a rest by it is below it
-pub power_is : (k : ℕ) → k < 64 → 1 * 2 ^ k % 2 ^ 64 ≡ 2 ^ k
-power_is k h = shl_exact {a = 1} 1 k 64 (omega arith) (omega arith) ∙ one-mul (2 ^ k)
+odd-mod : (v : ℕ) → odd (v % 2) ≡ odd v
+odd-mod v = let h : v % 2 % 2 ≡ v % 2 = omega arith in rw h
 
-pub power_some : (k : ℕ) → k < 64 → 0 < 1 * 2 ^ k % 2 ^ 64
-power_some k h = rw (power_is k h) (pow_pos k)
-
-pub rest_lt : (v k n : ℕ) → k < 64 → k ≤ n → v % (1 * 2 ^ k % 2 ^ 64) < 2 ^ n
-rest_lt v k n h l = rw (power_is k h) (lt_of_lt_of_le (mod-lt v (pow_pos k)) (pow_mono l))
-
--- ---- the code of a number in n bits
-
--- its first bits are the code of the number without its last ones
-code_split : (a b v : ℕ) → code (a + b) v ≡ code a (v / 2 ^ b) ++ code b v
+-- a code with one bit more
+code_more : (k v b : ℕ) → b < 2 → code (k + 1) (v * 2 + b) ≡ code k v ++ (odd b ∷ [])
 unfolding code
-code_split a zero v = rw (add-zero a, div-one v) (sym (append-nil (code a v)))
-code_split a (suc b) v =
-    let e : a + suc b ≡ suc (a + b) = omega arith in
-    let n : 1 + b ≡ suc b = omega arith in
-    let d : v / 2 / 2 ^ b ≡ v / 2 ^ suc b = shr-shr v 1 b ∙ ap (λ (m : ℕ). v / 2 ^ m) n in
-    rw (e, code_split a b (v / 2), d) (append_assoc (code a (v / 2 ^ suc b)) (code b (v / 2)) (odd v ∷ []))
-
--- what is before its last n bits does not count
-code-mod : (n v : ℕ) → code n (v % 2 ^ n) ≡ code n v
-unfolding code
-code-mod zero v = refl
-code-mod (suc n) v =
-    let d : v % 2 ^ (n + 1) / 2 ≡ v / 2 % 2 ^ n = field v n 1 in
-    let m : v % 2 ^ (n + 1) % 2 ≡ v % 2 = mod-mod-pow v n 1 in
-    rw (← add-one n, d, m, code-mod n (v / 2))
-
--- as a program cuts it off
-pub code_rest : (n v : ℕ) → n < 64 → code n (v % (1 * 2 ^ n % 2 ^ 64)) ≡ code n v
-code_rest n v h = rw (power_is n h) (code-mod n v)
-
--- THE LAW of words: one number behind another
-pub code_joined : (a b x y : ℕ) → y < 2 ^ b → code (a + b) (x * 2 ^ b + y) ≡ code a x ++ code b y
-code_joined a b x y h = rw (code_split a b (x * 2 ^ b + y), high x b h, ← code-mod b (x * 2 ^ b + y), low x b h)
-
--- ---- bytes
-
-pub stored_none : (out : List ℕ) (at v : ℕ) → Stored out at 0 v out
-unfolding code
-stored_none out at v = record { up_to = rw (add-zero at) (sym (append-nil (bits_of (take at out)))); later = refl; same = refl }
-
-pub stored_byte : (out : List ℕ) (at v : ℕ) → at < length out → Stored out at 1 v (set out at (v % 256))
-unfolding bits_of
-stored_byte out at v l =
-    let b = v % 256 in
-    let one : bits_of (b ∷ []) ≡ code 8 v = append-nil (code 8 b) ∙ code-mod 8 v in
-    record {
-      up_to = rw (add-one at, take-suc-set out at b l, bits_append (take at out) (b ∷ []), one);
-      later = drop-set-lt (at + 1) out at b (omega arith);
-      same = length-set out at b;
-    }
-
--- bytes of one number behind others, for every number of bytes
-pub stored_then : {o₀ o₁ o₂ : List ℕ} (at a b v x : ℕ) → Stored o₀ at a x o₁ → Stored o₁ (at + a) b v o₂ → x ≡ v / 2 ^ (8 * b) → Stored o₀ at (a + b) v o₂
-stored_then {o₀} {o₁} {o₂} at a b v x p q e =
-    let n : at + (a + b) ≡ at + a + b = omega arith in
-    let m : 8 * (a + b) ≡ 8 * a + 8 * b = omega arith in
-    record {
-      up_to = rw (n, m, q.up_to, p.up_to, e, code_split (8 * a) (8 * b) v) (append_assoc (bits_of (take at o₀)) (code (8 * a) (v / 2 ^ (8 * b))) (code (8 * b) v));
-      later = rw n (q.later ∙ later_on (at + a) (at + a + b) o₁ o₀ (omega arith) p.later);
-      same = q.same ∙ p.same;
-    }
-
--- ---- words
+code_more k v b h =
+    let d : (v * 2 + b) / 2 ≡ v = omega arith in
+    let m : (v * 2 + b) % 2 ≡ b % 2 = omega arith in
+    rw (add-one k, d, m)
 
 pub start_sound : Sound start_pen
 start_sound = record { few = omega arith; small = omega arith }
@@ -100,35 +40,40 @@ small pen s =
     seven : (k : ℕ) → k < 8 → k ≤ 7
     seven k h = omega arith
 
--- the bits that wait and a word are a number of 63 bits at most
-module _ (pen : Pen) (n v : ℕ) (s : Sound pen) (h : n ≤ 56) (f : v < 2 ^ n) where
-  pub word_is : pen.bits * 2 ^ n % 2 ^ 64 ≡ pen.bits * 2 ^ n
-  word_is = shl_exact 7 n 64 (small pen s) (omega arith)
+-- a bit that waits
+pub held_bit : (out : List ℕ) (pen : Pen) (b : ℕ) → Sound pen → b < 2 → (pen.waiting ≡ 7 → ⊥)
+    → Wrote out pen (odd b ∷ []) out (record { at = pen.at; waiting = pen.waiting + 1; bits = pen.bits * 2 + b })
+held_bit out pen b s h e = record {
+  up_to = rw (code_more pen.waiting pen.bits b h) (sym (append_assoc (bits_of (take pen.at out)) (code pen.waiting pen.bits) (odd b ∷ [])));
+  sound = record {
+    few = room pen.waiting s.few e;
+    small = rw (add-one pen.waiting, pow-succ' 2 pen.waiting) (omega (arith, s.small));
+  };
+  later = refl;
+  same = refl;
+  place = omega arith;
+}
+  where
+    room : (k : ℕ) → k < 8 → (k ≡ 7 → ⊥) → k + 1 < 8
+    room k f e = omega arith
 
-  pub word_fits : pen.bits * 2 ^ n % 2 ^ 64 + v < 2 ^ 64
-  word_fits =
-      let a : pen.bits * 2 ^ n < 2 ^ 63 = lt_of_lt_of_le (shl_lt 7 n (small pen s)) (pow_mono {j = 63} (omega arith)) in
-      let b : v < 2 ^ 63 = lt_of_lt_of_le f (pow_mono {j = 63} (omega arith)) in
-      rw word_is (add-lt-pow 63 a b)
-
-  -- its whole bytes are stored, and what is behind them waits
-  pub word_wrote : {out out' : List ℕ} (word power : ℕ) → word ≡ pen.bits * 2 ^ n + v → power ≡ 2 ^ ((pen.waiting + n) % 8)
-      → Stored out pen.at ((pen.waiting + n) / 8) (word / 2 ^ ((pen.waiting + n) % 8)) out'
-      → Wrote out pen (code n v) out' (record { at = pen.at + (pen.waiting + n) / 8; waiting = (pen.waiting + n) % 8; bits = word % power })
-  word_wrote {out} {out'} word power e p q =
-      let rest = (pen.waiting + n) % 8 in
-      let k = (pen.waiting + n) / 8 in
-      let a : 8 * k + rest ≡ pen.waiting + n = omega arith in
-      let whole : code (8 * k) (word / 2 ^ rest) ++ code rest word ≡ code pen.waiting pen.bits ++ code n v =
-      sym (code_split (8 * k) rest word) ∙ rw (a, e) (code_joined pen.waiting n pen.bits v f) in
-      record {
-        up_to = rw (p, code-mod rest word, q.up_to, append_assoc (bits_of (take pen.at out)) (code (8 * k) (word / 2 ^ rest)) (code rest word), whole)
-            (sym (append_assoc (bits_of (take pen.at out)) (code pen.waiting pen.bits) (code n v)));
-        sound = record { few = omega arith; small = rw p (mod-lt word (pow_pos rest)) };
-        later = q.later;
-        same = q.same;
-        place = omega (arith, length-code n v);
-      }
+-- the eighth bit
+pub stored_bit : (out : List ℕ) (pen : Pen) (b : ℕ) → b < 2 → pen.waiting ≡ 7 → pen.at < length out
+    → Wrote out pen (odd b ∷ []) (set out pen.at (pen.bits * 2 + b)) (record { at = pen.at + 1; waiting = 0; bits = 0 })
+unfolding code bits_of
+stored_bit out pen b h e l =
+    let a = pen.bits * 2 + b in
+    let m : code 8 a ≡ code 7 pen.bits ++ (odd b ∷ []) = code_more 7 pen.bits b h in
+    let one : bits_of (a ∷ []) ≡ code 8 a = append-nil (code 8 a) in
+    record {
+      up_to = append-nil (bits_of (take (pen.at + 1) (set out pen.at a)))
+          ∙ rw (add-one pen.at, take-suc-set out pen.at a l, bits_append (take pen.at out) (a ∷ []), one, m, e)
+          (sym (append_assoc (bits_of (take pen.at out)) (code 7 pen.bits) (odd b ∷ [])));
+      sound = record { few = omega arith; small = omega arith };
+      later = drop-set-lt (pen.at + 1) out pen.at a (omega arith);
+      same = length-set out pen.at a;
+      place = omega arith;
+    }
 
 -- one writing behind another
 pub wrote_then : {o₀ o₁ o₂ : List ℕ} {p₀ p₁ p₂ : Pen} {bs cs : List Bool} → Wrote o₀ p₀ bs o₁ p₁ → Wrote o₁ p₁ cs o₂ p₂ → Wrote o₀ p₀ (bs ++ cs) o₂ p₂
@@ -153,8 +98,26 @@ wrote_none out pen s = record {
 pub room_left : {o₀ o₁ : List ℕ} {p₀ p₁ : Pen} {bs : List Bool} → Wrote o₀ p₀ bs o₁ p₁ → (n : ℕ) → RoomForBits o₀ p₀ (length bs + n) → RoomForBits o₁ p₁ n
 room_left p n r = omega (arith, p.place, p.same)
 
-pub room_behind : {o₀ o₁ : List ℕ} {p₀ p₁ : Pen} (a v : ℕ) → Wrote o₀ p₀ (code a v) o₁ p₁ → (n : ℕ) → RoomForBits o₀ p₀ (a + n) → RoomForBits o₁ p₁ n
-room_behind a v p n r = room_left p n (omega (arith, length-code a v))
+-- u(n), bit by bit: k bits are written, of v without its last n - k bits
+code-next : (n k v : ℕ) → k < n → code (k + 1) (v / 2 ^ (n - (k + 1))) ≡ code k (v / 2 ^ (n - k)) ++ (odd (v / 2 ^ (n - 1 - k) % 2) ∷ [])
+unfolding code
+code-next n k v h =
+    let i : n - (k + 1) ≡ n - 1 - k = omega arith in
+    let j : n - 1 - k + 1 ≡ n - k = omega arith in
+    let d : v / 2 ^ (n - 1 - k) / 2 ≡ v / 2 ^ (n - k) = shr-shr v (n - 1 - k) 1 ∙ ap (λ (m : ℕ). v / 2 ^ m) j in
+    rw (i, add-one k, odd-mod (v / 2 ^ (n - 1 - k)), d)
+
+module _ (o₀ o₁ : List ℕ) (p₀ p₁ : Pen) (n k v : ℕ) (so_far : Wrote o₀ p₀ (code k (v / 2 ^ (n - k))) o₁ p₁) where
+  pub next_bit : (o₂ : List ℕ) (p₂ : Pen) → k < n → Wrote o₁ p₁ (odd (v / 2 ^ (n - 1 - k) % 2) ∷ []) o₂ p₂ → Wrote o₀ p₀ (code (k + 1) (v / 2 ^ (n - (k + 1)))) o₂ p₂
+  next_bit o₂ p₂ h q = rw (code-next n k v h) (wrote_then so_far q)
+
+  pub next_room : k < n → RoomForBits o₀ p₀ n → RoomForBits o₁ p₁ 1
+  next_room h r = room_left so_far 1 (omega (arith, length-code k (v / 2 ^ (n - k))))
+
+  pub all_bits_lem : k ≡ n → Wrote o₀ p₀ (code n v) o₁ p₁
+  all_bits_lem e =
+      let z : n - k ≡ 0 = omega arith in
+      rw (z, e, div-one v) at so_far
 
 -- ue(v): zeros, and v + 1, whose first bit is the one
 value_from_lem : (v : ℕ) (l : List Bool) → value_from v l ≡ v * 2 ^ length l + value l
@@ -187,21 +150,16 @@ ue_whole v =
     let z = zeros_law v in
     rw (add-one (zeros_of v), code_top (zeros_of v) (v + 1) z.0 z.1)
 
--- it is one number, with the zeros before it
-pub ue_word : (v : ℕ) → ue_code v ≡ code (2 * zeros_of v + 1) (v + 1)
-ue_word v =
-    let k = zeros_of v in
-    let n : 2 * k + 1 ≡ k + (k + 1) = omega arith in
-    let h : v + 1 < 2 ^ (k + 1) = rw (add-one k, pow-succ' 2 k) (zeros_law v).1 in
-    let z : 0 * 2 ^ (k + 1) + (v + 1) ≡ v + 1 = omega arith in
-    ue_whole v ∙ rw (n, ← code-zero k) (sym (rw z at (code_joined k (k + 1) 0 (v + 1) h)))
+-- halving, and where it ends
+pub halved : (v k : ℕ) → (v + 1) / 2 ^ k / 2 ≡ (v + 1) / 2 ^ (k + 1)
+halved v k = shr-shr (v + 1) k 1
 
--- the zeros of a code are as many as v + 1 has behind its first one
-pub zeros_leading : (v : ℕ) → v + 1 < 2 ^ 32 → (count_leading_zeros 32 (v + 1) ≤ 31) × (31 - count_leading_zeros 32 (v + 1) ≡ zeros_of v)
-zeros_leading v h =
-    let t = leading_top 32 (v + 1) (omega arith) h in
-    let z = zeros_is t.0 v t.2 (omega (arith, t.3, pow-succ' 2 t.0)) in
-    (omega (arith, t.1), omega (arith, t.1, z))
+pub halved_out : (v k x : ℕ) → x ≡ (v + 1) / 2 ^ k → 0 < x → x < 2 → k ≡ zeros_of v
+halved_out v k x e p h =
+    let one : (v + 1) / 2 ^ k ≡ 1 = omega arith in
+    let s : 1 * 2 ^ k + (v + 1) % 2 ^ k ≡ v + 1 = rw one at (split (v + 1) k) in
+    let m : (v + 1) % 2 ^ k < 2 ^ k = mod-lt (v + 1) (pow_pos k) in
+    sym (zeros_is k v (omega arith) (omega arith))
 
 -- the statement of what was written admits one buffer and one pen
 same_parts : {A : Type 0} (a b c d : List A) → length a ≡ length c → a ++ b ≡ c ++ d → (a ≡ c) × (b ≡ d)

@@ -27,9 +27,3 @@ pub record Wrote (out : List ℕ) (pen : Pen) (bits : List Bool) (out' : List �
   pub later : drop pen'.at out' ≡ drop pen'.at out
   pub same : length out' ≡ length out
   pub place : 8 * pen'.at + pen'.waiting ≡ 8 * pen.at + pen.waiting + length bits
-
--- from out to out' the last k bytes of v were stored from byte `at` on, the most significant first, and no byte behind them changed
-pub record Stored (out : List ℕ) (at k v : ℕ) (out' : List ℕ) : Type 0 where
-  pub up_to : bits_of (take (at + k) out') ≡ bits_of (take at out) ++ code (8 * k) v
-  pub later : drop (at + k) out' ≡ drop (at + k) out
-  pub same : length out' ≡ length out

@@ -10,7 +10,7 @@ use borrow.Author.Tests.{leb-true}
 use lib.Dec.{leb}
 use lib.IntN.{ℤ}
 use lib.ListN.{length, take, drop, get_or}
-use Rattle.refusals.specs.Refusals.{not_valid, notATrack}
+use Rattle.refusals.specs.Refusals.{not_valid, too_many_points, notATrack}
 use Rattle.tree.specs.Bits.{bits_of, Bytes}
 use Rattle.tree.specs.Reading.{Out, ok, no}
 use Rattle.element.specs.declared.Element.{Element}
@@ -39,11 +39,16 @@ use Rattle.flat.proofs.Named.{length_in, flat-names, valid_is_typed}
 use Rattle.tables.specs.Table.{flat_point, table_in}
 use Rattle.tables.proofs.Back.{TypedPoint, AllTyped, cleared-typed, padded_back, track_typed}
 use Rattle.pimlasut.specs.Boundary.{kind_number, facts_of, point_named, placing, placed_table, looking, joining, joined_table}
-use Rattle.pimlasut.proofs.Laws.{both_tracks}
+
+done_by : (u v w : Bool) → ◌≡◌ {A = ℕ} (cond u (cond v (cond w 0 too_many_points) notATrack) notATrack) 0 → (u ≡ true) × (v ≡ true) × (w ≡ true)
+done_by true true true e = (refl, refl, refl)
+done_by true true false e = absurd (omega (arith, e))
+done_by true false w e = absurd (omega (arith, e))
+done_by false v w e = absurd (omega (arith, e))
 
 pub joined_is_read : (a : List ℤ) (n : ℕ) (b : List ℤ) (m : ℕ) → (joining a n b m).result ≡ 0 → table_in (joined_table a n b m) ≡ padded (join_of (table_in a) n (table_in b) m)
 joined_is_read a n b m e =
-    let d = both_tracks (is_track (table_in a) n) (is_track (table_in b) m) (leb (length (join_of (table_in a) n (table_in b) m)) most_points) e in
+    let d = done_by (is_track (table_in a) n) (is_track (table_in b) m) (leb (length (join_of (table_in a) n (table_in b) m)) most_points) e in
     padded_back (join_of (table_in a) n (table_in b) m) (leb-true (length (join_of (table_in a) n (table_in b) m)) most_points d.2)
     (join_all pictures number TypedPoint (take n (table_in a)) (take m (table_in b)) (track_typed a n d.0) (track_typed b m d.1))
 

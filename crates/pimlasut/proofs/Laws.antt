@@ -2,12 +2,12 @@
 use Prim.Native.Nat.{ℕ, ◌+◌, ◌-◌, ◌<◌, ◌≤◌}
 use mathlib.Core.Path.{◌≡◌, refl, sym, ap, subst, ◌∙◌}
 use mathlib.Core.Bool.{Bool, true, false, not, cond, ◌&&◌, ◌||◌}
-use mathlib.Core.List.{List, ◌++◌, map}
+use mathlib.Core.List.{List, ◌++◌, map, append-nil}
 use native.Mathlib.Omega.{arith}
 use borrow.Author.Tests.{ne_eqb, eq-eqb, leb-true}
 use lib.Dec.{eqb, leb}
 use lib.IntN.{ℤ}
-use lib.ListN.{length, take, drop}
+use lib.ListN.{length, take, drop, drop_of_length-le}
 use lib.Seq.{paste, take_all}
 use Rattle.refusals.specs.Refusals.{unfit_output, not_valid, too_many_points, notATrack}
 use Rattle.output.specs.declared.Written.{Written}
@@ -31,7 +31,7 @@ use Rattle.plan.specs.Planning.{no_sources, layout_of, merged_sources, refused_l
 use Rattle.plan.specs.Seeking.{reach_of, none_sought, sought_at, seek_of}
 use Rattle.track.specs.declared.InForce.{InForce}
 use Rattle.track.specs.declared.Joined.{Joined}
-use Rattle.track.specs.Track.{cleared, padded, is_track, join_of, join_refusal, join_answer, lookup_answer}
+use Rattle.track.specs.Track.{cleared, padded, join_of, join_refusal, join_answer, lookup_answer}
 use Rattle.track.specs.Inner.{point_at, held_of, missing_of, look_from, scan_of, chosen_of, filled_to, answer_of}
 use Rattle.track.proofs.Together.{laid, answer_is, table_is}
 use Rattle.track.proofs.Looking.{look_is, inside}
@@ -39,9 +39,8 @@ use Rattle.reason.specs.Reason.{reason_text, longest, write_reason, reason_buffe
 use Rattle.reason.proofs.Longest.{longest_bytes}
 use Rattle.flat.specs.Flat.{flat, flat_length, record_in}
 use Rattle.flat.proofs.Named.{length_in}
-use Rattle.tables.specs.Table.{point_in, table_in, found_in, all_valid}
-use Rattle.tables.proofs.Laws.{length_table, table_at, pasted_over}
-use Rattle.tables.proofs.Stand.{joined_valid}
+use Rattle.tables.specs.Table.{point_in, table_in, found_in}
+use Rattle.tables.proofs.Laws.{length_table, table_at}
 use Rattle.pimlasut.specs.Boundary.{if_sized, after, is_record, is_facts, facts_of, facts_after, answer_into}
 
 -- ---- lengths, and what stays
@@ -82,15 +81,12 @@ none_of_three_wrong true false c h = let z : ◌≡◌ {A = ℕ} 0 1 = cc in abs
 none_of_three_wrong false b c h = let z : ◌≡◌ {A = ℕ} 0 1 = cc in absurd (omega arith)
 
 pub pasted_whole : (d s : List ℤ) (n : ℕ) → length d ≡ n → length s ≡ n → paste d 0 s n ≡ s
-pasted_whole d s n e f = pasted_over d s n e ∙ take_all n s (omega arith)
+pasted_whole d s n e f =
+    ap (λ (l : List ℤ). l ++ drop (0 + n) d) (take_all n s (omega arith)) ∙ ap (λ (l : List ℤ). s ++ l) (drop_of_length-le d {i = 0 + n} (omega arith)) ∙ append-nil s
 
 -- a row that is a record's is read whole
 pub whole_row : (l : List ℤ) (n : ℕ) → length l ≡ n → take n (drop 0 l) ≡ l
 whole_row l n e = take_all n l (omega arith)
-
--- and judged whole
-pub judged : (row : List ℤ) {t u : Bool} → length row ≡ flat_length → t ≡ valid (record_in (take flat_length (drop 0 row))) → t ≡ u → valid (record_in row) ≡ u
-judged row l e h = ap (λ (r : List ℤ). valid (record_in r)) (sym (whole_row row flat_length l)) ∙ sym e ∙ h
 
 -- ---- reading
 
@@ -185,12 +181,6 @@ module _ (code : Record → List ℕ) (row : List ℤ) (out : List ℕ) (l : len
       let p = given_as bytes good out answer k (g ∙ ap (λ (r : Record). bufferAs (code r) (valid r) out) whole) h i in
       (p.0 ∙ right (is_record row) (writtenAs bytes good out).result (eq-eqb (length row) flat_length l), p.1)
 
--- a row that names no valid record: 14, whatever the output
-pub not_written : (bytes : List ℕ) (row : List ℤ) (out : List ℕ) → length row ≡ flat_length → valid (record_in row) ≡ false
-    → not_valid ≡ if_sized (is_record row) (writtenAs bytes (valid (record_in row)) out).result
-not_written bytes row out l bad =
-    sym (ap (λ (t : Bool). (writtenAs bytes t out).result) bad) ∙ right (is_record row) (writtenAs bytes (valid (record_in row)) out).result (eq-eqb (length row) flat_length l)
-
 -- ---- a reason
 
 -- a reading's reason, written, as it is given
@@ -269,13 +259,6 @@ few_points s n t m k = go s.track t.track (eqb k most_points)
     go true false w = omega arith
     go false v w = omega arith
 
--- a join that is not refused
-pub both_tracks : (u v w : Bool) → ◌≡◌ {A = ℕ} (cond u (cond v (cond w 0 too_many_points) notATrack) notATrack) 0 → (u ≡ true) × (v ≡ true) × (w ≡ true)
-both_tracks true true true e = (refl, refl, refl)
-both_tracks true true false e = absurd (omega (arith, e))
-both_tracks true false w e = absurd (omega (arith, e))
-both_tracks false v w e = absurd (omega (arith, e))
-
 module _ (a : List ℤ) (n : ℕ) (b : List ℤ) (m : ℕ) where
   abbrev pub planned : Layout
   planned = laid (table_in a) n (table_in b) m most_points
@@ -294,10 +277,3 @@ module _ (a : List ℤ) (n : ℕ) (b : List ℤ) (m : ℕ) where
       subst (λ (j : ℕ). filled_to t (table_in a) (table_in b) (laid (table_in a) n (table_in b) m j) ≡ cond (eqb (join_refusal (table_in a) n (table_in b) m j) 0) (padded (join_of (table_in a) n (table_in b) m)) t) k e in
       sym (ap (λ (u : Bool). cond u (map (chosen_of (table_in a) (table_in b)) planned.sources) t) (eq-eqb planned.result 0 h)) ∙ g
       ∙ ap (λ (u : Bool). cond u (padded (join_of (table_in a) n (table_in b) m)) t) (eq-eqb (join_refusal (table_in a) n (table_in b) m most_points) 0 f)
-
-  -- and then both are tracks, so every point that is chosen is valid
-  pub planned_valid : planned.result ≡ 0 → all_valid (map (chosen_of (table_in a) (table_in b)) planned.sources) ≡ true
-  planned_valid h =
-      let f : join_refusal (table_in a) n (table_in b) m most_points ≡ 0 = sym (ap (λ (j : Joined). j.result) planned_answer) ∙ h in
-      let d = both_tracks (is_track (table_in a) n) (is_track (table_in b) m) (leb (length (join_of (table_in a) n (table_in b) m)) most_points) f in
-      ap all_valid (planned_table h) ∙ joined_valid (table_in a) n (table_in b) m d.0 d.1

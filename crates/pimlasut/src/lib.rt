@@ -4,7 +4,7 @@
 // say where and why then.
 ghost use Rattle.std.specs.Prelude.{◌≡◌, true, ◌&&◌, ◌∷◌, ◌<◌, eqb, length};
 ghost use Rattle.tree.specs.Bits.{bit};
-ghost use Rattle.valid.specs.Valid.{valid};
+ghost use Rattle.record.specs.Blocks.{most_blocks};
 ghost use Rattle.refusals.specs.Refusals.{unfit_output};
 ghost use Rattle.reader.specs.Reading.{unplaced, read_bare};
 ghost use Rattle.writer.specs.Writing.{write_bare, bare_buffer};
@@ -12,17 +12,18 @@ ghost use Rattle.wrapper.specs.Wrapper.{read_wrapped, write_wrapped, wrapped_buf
 ghost use Rattle.sei.specs.SeiUnit.{read_unit, write_unit, unit_buffer};
 ghost use Rattle.shader.specs.Shader.{bits_in, conversion_result, conversion_bits};
 ghost use Rattle.plan.specs.Limit.{most_points};
-ghost use Rattle.track.specs.Track.{placed_points};
+ghost use Rattle.track.specs.Track.{padded, placed_points};
 ghost use Rattle.reason.specs.Reason.{write_reason, reason_buffer};
 ghost use Rattle.flat.specs.Flat.{place_length, flat, flat_length, record_in, block_named};
-ghost use Rattle.tables.specs.Table.{flat_point, point_length, table_length, found_in};
-ghost use Rattle.pimlasut.specs.Boundary.{if_sized, after, is_record, is_point, is_table, kind_number, cause_facts, facts_length, facts_of, facts_after, answer_into, singles, point_named, placing, placed_table, looking, joining, joined_table, Patterns};
+ghost use Rattle.tables.specs.Table.{flat_point, point_length, flat_table, table_length, found_in};
+ghost use Rattle.pimlasut.specs.Boundary.{if_sized, after, is_record, is_point, is_table, kind_number, cause_facts, facts_length, facts_of, facts_after, answer_into, singles, placing, placed_table, looking, joining, joined_table, Patterns};
 
 use cause::{Cause, Kind};
 use output::Written;
 use plan::Sought;
 use reader::Reading;
 use shader::Numbers;
+use track::Point;
 
 // 01, Refusal numbers, as C's functions give them.
 const WRONG_LENGTH: u32 = refusals::UNFIT_OUTPUT as u32;
@@ -174,11 +175,8 @@ pub extern "C" fn pim_write_bare(numbers: &[i32], out: &mut [u8], written: &mut 
     if numbers.len() != flat::NUMBERS {
         return WRONG_LENGTH;
     }
-    if !flat::is_valid(numbers, 0) {
-        return NOT_VALID;
-    }
-    let r = flat::get_valid(numbers, 0);
-    let answer = writer::write_valid(r, out);
+    let r = flat::get_record(numbers, 0);
+    let answer = writer::write_data(r, out);
     give_written(answer, written)
 }
 
@@ -191,11 +189,8 @@ pub extern "C" fn pim_write_wrapped(numbers: &[i32], out: &mut [u8], written: &m
     if numbers.len() != flat::NUMBERS {
         return WRONG_LENGTH;
     }
-    if !flat::is_valid(numbers, 0) {
-        return NOT_VALID;
-    }
-    let r = flat::get_valid(numbers, 0);
-    let answer = wrapper::write_valid(r, out);
+    let r = flat::get_record(numbers, 0);
+    let answer = wrapper::write_wrapped(r, out);
     give_written(answer, written)
 }
 
@@ -208,10 +203,7 @@ pub extern "C" fn pim_write_unit(numbers: &[i32], out: &mut [u8], written: &mut 
     if numbers.len() != flat::NUMBERS {
         return WRONG_LENGTH;
     }
-    if !flat::is_valid(numbers, 0) {
-        return NOT_VALID;
-    }
-    let r = flat::get_valid(numbers, 0);
+    let r = flat::get_record(numbers, 0);
     let answer = sei::write_unit(r, out);
     give_written(answer, written)
 }
@@ -265,16 +257,16 @@ pub extern "C" fn pim_shader(numbers: &[i32], bits: &mut [u32]) -> u32
 
 // ---- tracks
 
-// Of numbers that name a valid record, which are then copied as they are.
-fn place_point(table: &mut [i32], numbers: &[i32], picture: i32, segment: u16) -> u32
-    requires { (length table.old ≡ table_length) × (length numbers.now ≡ flat_length) × (valid (record_in numbers.now) ≡ true) }
-    ensures count { result ≡ length (placed_points (point_named numbers.now picture segment)) }
-    ensures table { table.new ≡ placed_table numbers.now picture segment }
+// Of a point whose record is valid.
+fn place_point(table: &mut [i32], point: Point) -> u32
+    requires { (length table.old ≡ table_length) × (length point.«record».places ≡ most_blocks) }
+    ensures count { result ≡ length (placed_points point) }
+    ensures table { table.new ≡ flat_table (padded (placed_points point)) }
 {
     tables::clear(table);
-    let flag = numbers[0];
-    if flag == 1 {
-        tables::put_first(table, picture, segment, numbers);
+    let shown = point.record;
+    if shown.refresh {
+        tables::put_point(table, 0, point);
         return 1;
     }
     0
@@ -295,8 +287,14 @@ pub extern "C" fn pim_place(
     if (numbers.len() != flat::NUMBERS) | (table.len() != tables::NUMBERS) {
         return WRONG_LENGTH;
     }
-    if flat::is_valid(numbers, 0) {
-        *count = place_point(table, numbers, picture, segment);
+    let r = flat::get_record(numbers, 0);
+    if valid::is_valid(r) {
+        let point = Point {
+            picture,
+            segment,
+            record: r,
+        };
+        *count = place_point(table, point);
         return 0;
     }
     NOT_VALID
@@ -304,7 +302,7 @@ pub extern "C" fn pim_place(
 
 // What a search has found, shown: the point, or a cleared one.
 fn show(table: &[i32], sought: Sought, numbers: &mut [i32], found: &mut u32) -> u32
-    requires { (length table.now ≡ table_length) × (length numbers.old ≡ point_length) × (sought.found ≡ true → sought.at < most_points) × (valid (found_in table.now sought).«record» ≡ true) }
+    requires { (length table.now ≡ table_length) × (length numbers.old ≡ point_length) × (sought.found ≡ true → sought.at < most_points) }
     ensures result { result ≡ sought.result }
     ensures point { numbers.new ≡ after result (flat_point (found_in table.now sought)) numbers.old }
     ensures found { found.new ≡ after result (bit sought.found) found.old }
@@ -312,7 +310,8 @@ fn show(table: &[i32], sought: Sought, numbers: &mut [i32], found: &mut u32) -> 
     if sought.result != 0 {
         return sought.result as u32;
     }
-    tables::put_found(numbers, table, sought);
+    let point = tables::found_point(table, sought);
+    tables::put_point(numbers, 0, point);
     *found = mark(sought.found);
     0
 }

@@ -46,9 +46,9 @@ use Rattle.block.specs.declared.Part.TheVariants.{Kept, Passed, Refused as Refus
 use Rattle.block.proofs.Laws.{accepted_few, accepted_fits, part_kept, part_passed, part_no}
 use Rattle.head.specs.Opening.{opening, aligned_head}
 use Rattle.head.proofs.Laws.{zeros_took}
-use Rattle.valid.specs.declared.Met.{Met}
-use Rattle.valid.specs.Met.{most_targets, target_of, met_of, targets_met}
-use Rattle.valid.proofs.Kept.{met_store}
+use Rattle.met.specs.declared.Met.{Met}
+use Rattle.met.specs.Met.{most_targets, target_of, met_of, targets_met}
+use Rattle.met.proofs.Laws.{met_store}
 use Rattle.cause.specs.declared.Cause.{Cause}
 use Rattle.cause.specs.Cause.{cause_in}
 use Rattle.reader.specs.declared.End.TheVariants.{Is as IsEnd, Refused as RefusedEnd}

@@ -15,8 +15,8 @@ use block::Part;
 use cause::Cause;
 use element::Element;
 use head::Opening;
+use met::Met;
 use record::{Place, Record};
-use valid::Met;
 
 // 0 or the number of the refusal, the number of blocks of reserved levels that were passed over and whether a refusal is in the wrapper
 // (beside it, where they take no room of their own), the bits read, where a refused element begins, why it is refused, and the record.
@@ -126,7 +126,7 @@ fn read_blocks(s: &[u8], start: usize, refresh: bool, n: u8) -> Reading
 {
     let mut r = Record::without_blocks(refresh);
     let mut seen = Met::nothing();
-    let mut targets: [u16; 17] = [valid::NO_TARGET; 17];
+    let mut targets: [u16; 17] = [met::NO_TARGET; 17];
     let mut width: usize = 0;
     let mut skipped: u8 = 0;
     let mut i: u8 = 0;
@@ -145,17 +145,17 @@ fn read_blocks(s: &[u8], start: usize, refresh: bool, n: u8) -> Reading
                 i += 1;
             }
             Part::Kept { block, width: m } => {
-                if valid::admits(seen, &targets, block) {
+                if met::admits(seen, &targets, block) {
                     let k = seen.twos as usize;
-                    targets[k] = valid::target_of(block);
-                    seen = valid::including(seen, block);
+                    targets[k] = met::target_of(block);
+                    seen = met::including(seen, block);
                     let j = r.count as usize;
                     r.places[j] = Place { block };
                     r.count = r.count + 1;
                     width += m;
                     i += 1;
                 } else {
-                    let number = valid::repeat_of(seen, block);
+                    let number = met::repeat_of(seen, block);
                     return refused(s, number, repeated(number), (start + width) as u32);
                 }
             }

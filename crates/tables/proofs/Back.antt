@@ -11,19 +11,19 @@ use lib.ListN.{length, take, drop, get_or, replicate, length-append, length-drop
 use lib.Seq.{get_or-drop, get_or-take, take_all, length-take-le}
 use Rattle.record.specs.declared.Record.{Record}
 use Rattle.record.specs.Blocks.{empty_record}
-use Rattle.valid.specs.Valid.{valid, every}
+use Rattle.record.proofs.Laws.{and_left, and_right}
+use Rattle.valid.specs.Valid.{valid, every, many, targets, all_differ}
 use Rattle.keyed.proofs.Mapped.{All}
 use Rattle.plan.specs.Limit.{most_points}
 use Rattle.plan.specs.Pictures.{pictures}
 use Rattle.track.specs.declared.Point.{Point}
-use Rattle.track.specs.Track.{number, point_with, cleared, padded, is_track}
+use Rattle.track.specs.Track.{number, point_with, cleared, padded, may_stand, all_stand, is_track}
 use Rattle.track.proofs.Tracks.{is_track_lem}
 use Rattle.flat.specs.Flat.{flat_length, flat, number_at, unsigned_in, names, record_in, unnamed_record, record_beside, FitsTypes}
 use Rattle.flat.proofs.Places.{part_of, rows_at}
 use Rattle.flat.proofs.Named.{each_is, flat-names, named_is_flat, unnamed_is_not_valid, length-flat, valid_is_typed}
 use Rattle.tables.specs.Table.{flat_point, point_length, flat_table, is_segment, point_in, table_in}
 use Rattle.tables.proofs.Laws.{length_point, length_table, entry_is, places_in, segment_in, segment_said}
-use Rattle.tables.proofs.Stand.{cleared-valid, entry-valid}
 
 -- every Point of a program is so: its segment fits a u16, and its record's fields fit their types
 pub record TypedPoint (p : Point) : Type 0 where
@@ -127,8 +127,8 @@ all_drop (suc n) [] g = g
 all_drop (suc n) (x ∷ xs) g = all_drop n xs g.1
 
 pub cleared-typed : TypedPoint cleared
-unfolding cleared
-cleared-typed = record { segment_fits = omega arith; fields_fit = valid_is_typed empty_record refl cleared-valid }
+unfolding cleared valid every many targets all_differ
+cleared-typed = record { segment_fits = omega arith; fields_fit = valid_is_typed empty_record refl refl }
 
 all-cleared : (n : ℕ) → AllTyped (replicate n cleared)
 all-cleared zero = tt
@@ -140,6 +140,11 @@ padded_back l h g =
     table_back (padded l) (λ i k. all_at (padded l) i whole k)
     (omega (arith, length-append l (drop (length l) (replicate most_points cleared)), length-drop (length l) (replicate most_points cleared), length-replicate most_points cleared))
 
+stand_at : (l : List Point) (i : ℕ) (d : Point) → all_stand l ≡ true → i < length l → may_stand (get_or l i d).«record» ≡ true
+stand_at [] i d e h = absurd (not-suc-le-zero h)
+stand_at (x ∷ xs) zero d e h = and_left (may_stand x.«record») (all_stand xs) e
+stand_at (x ∷ xs) (suc i) d e h = stand_at xs i d (and_right (may_stand x.«record») (all_stand xs) e) (le_of_suc-le-suc h)
+
 -- a track's points are valid, so their own numbers name them
 pub track_typed : (l : List ℤ) (n : ℕ) → is_track (table_in l) n ≡ true → AllTyped (take n (table_in l))
 track_typed l n e =
@@ -148,5 +153,6 @@ track_typed l n e =
     all_from (take n (table_in l))
     (λ i h. let k : i < most_points = omega (arith, t.few) in
     let at : get_or (take n (table_in l)) i cleared ≡ point_in l i = get_or-take n (table_in l) i cleared (omega arith) ∙ entry_is l i cleared k in
+    let good = and_right (get_or (take n (table_in l)) i cleared).«record».refresh (valid (get_or (take n (table_in l)) i cleared).«record») (stand_at (take n (table_in l)) i cleared t.stand h) in
     let few : (get_or (take n (table_in l)) i cleared).segment < 2 ^ 16 = omega (arith, ap (λ (p : Point). p.segment) at, segment_in l i) in
-    record { segment_fits = few; fields_fit = valid_is_typed (get_or (take n (table_in l)) i cleared).«record» (ap (λ (p : Point). length p.«record».places) at ∙ places_in l i) (ap (λ (p : Point). valid p.«record») at ∙ entry-valid l n i e (omega arith)) })
+    record { segment_fits = few; fields_fit = valid_is_typed (get_or (take n (table_in l)) i cleared).«record» (ap (λ (p : Point). length p.«record».places) at ∙ places_in l i) good })

@@ -1,5 +1,4 @@
 pub mod Laws
-pub mod Stand
 pub mod OneAnswer
 pub mod Back
 pub mod Pins

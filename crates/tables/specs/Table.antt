@@ -1,11 +1,9 @@
 -- A table of points as a row of numbers, for callers that have no Point.
-use Rattle.std.specs.Prelude.{ℕ, ◌+◌, ◌*◌, Bool, true, cond, ◌&&◌, List, [], ◌∷◌, map, eqb, ltb, ℤ, pos, take, drop, replicate}
+use Rattle.std.specs.Prelude.{ℕ, ◌+◌, ◌*◌, Bool, cond, List, ◌∷◌, map, eqb, ℤ, pos, take, drop, replicate}
 use Rattle.tree.specs.Coding.{unsigned, holds}
-use Rattle.valid.specs.Valid.{valid}
 use Rattle.plan.specs.declared.Layout.{Layout}
 use Rattle.plan.specs.declared.Sought.{Sought}
 use Rattle.plan.specs.Limit.{most_points}
-use Rattle.plan.specs.Planning.{neither, left_of, right_of}
 use Rattle.track.specs.declared.Point.{Point}
 use Rattle.track.specs.Track.{point_with, cleared}
 use Rattle.track.specs.Inner.{chosen_of}
@@ -48,16 +46,6 @@ table_in l = each (point_in l) most_points
 -- the point that a search has found, or a cleared one where it has found none
 abbrev pub found_in : List ℤ → Sought → Point
 found_in l sought = cond sought.found (point_in l sought.at) cleared
-
--- the numbers from the entry on that a source names, or a cleared entry's
-abbrev pub chosen_from : List ℤ → List ℤ → ℕ → List ℤ
-chosen_from a b source =
-    cond (ltb source most_points) (drop (point_length * left_of source) a) (cond (ltb source neither) (drop (point_length * right_of source) b) (zero_row point_length))
-
--- each of the points has a valid record
-abbrev pub all_valid : List Point → Bool
-all_valid [] = true
-all_valid (x ∷ xs) = valid x.«record» && all_valid xs
 
 -- the numbers of a table that a layout has filled; none changes where it is a refusal
 abbrev pub filled_as : List ℤ → List ℤ → List ℤ → Layout → List ℤ

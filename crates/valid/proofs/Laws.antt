@@ -33,6 +33,28 @@ unfolding among
 among-append x [] zs = refl
 among-append x (y ∷ ys) zs = rw (among-append x ys zs, or_assoc)
 
+pub new_target-append : (xs ys : List Block) (b : Block) → new_target (xs ++ ys) b ≡ new_target xs b && new_target ys b
+new_target-append xs ys Nothing = refl
+new_target-append xs ys (Level1 min max avg) = refl
+new_target-append xs ys (Level2 t s o p c g m) = rw (targets-append xs ys, among-append, not_or)
+new_target-append xs ys (Level5 l r t b) = refl
+
+-- a block has room in its level, and in level 2 a new target, where none stands before it
+pub first_follows : (b : Block) → valid_block b ≡ true → may_follow [] b ≡ true
+unfolding may_follow many targets among
+first_follows Nothing h = h
+first_follows (Level1 min max avg) h = refl
+first_follows (Level2 t s o p c g m) h = refl
+first_follows (Level5 l r t b) h = refl
+
+-- where no level 2 block stands before it, each block's target is new
+pub new_target_none : (before : List Block) (b : Block) → targets before ≡ [] → new_target before b ≡ true
+unfolding among
+new_target_none before Nothing h = refl
+new_target_none before (Level1 min max avg) h = refl
+new_target_none before (Level2 t s o p c g m) h = rw h
+new_target_none before (Level5 l r t b) h = refl
+
 pub well_formed-append : (before xs ys : List Block) → well_formed before (xs ++ ys) ≡ well_formed before xs && well_formed (before ++ xs) ys
 unfolding well_formed
 well_formed-append before [] ys = rw append-nil
@@ -67,3 +89,14 @@ targets_more bs Nothing = rw (targets-append bs (Nothing ∷ []), append-nil, an
 targets_more bs (Level1 min max avg) = rw (targets-append bs (Level1 min max avg ∷ []), append-nil, and-true)
 targets_more bs (Level2 t s o p c g m) = rw (targets-append bs (Level2 t s o p c g m ∷ []), all_differ_more)
 targets_more bs (Level5 l r t b) = rw (targets-append bs (Level5 l r t b ∷ []), append-nil, and-true)
+
+-- ---- the blocks of a record, place by place
+
+-- the walk over the first n blocks of a record, at block j
+pub walk_more : (r : Record) (j n : ℕ) → j < n → n ≤ length r.places
+    → well_formed (take j (all_blocks r)) (drop j (take n (all_blocks r)))
+    ≡ valid_block (block_at r j) && may_follow (take j (all_blocks r)) (block_at r j) && well_formed (take (j + 1) (all_blocks r)) (drop (j + 1) (take n (all_blocks r)))
+unfolding well_formed
+walk_more r j n h k =
+    let k' : n ≤ length (all_blocks r) = rw (length-map r.places block_in) k in
+    rw (take_more r j (omega arith), slice-cons j n (all_blocks r) Nothing h k', get_or-map block_in r.places j empty_place, add-one j)

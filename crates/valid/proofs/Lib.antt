@@ -1,6 +1,4 @@
 pub mod Laws
 pub mod Clauses
 pub mod Made
-pub mod Kept
-pub mod Walk
 pub mod OneAnswer

@@ -62,7 +62,7 @@ made_more flag bs b h =
     (ap (made flag (length bs + 1)) (set_at (map place_with bs) empty_place (replicate (17 - length bs) empty_place) (place_with b) (length bs) (length-map bs place_with)))
 
 -- a valid record is the record of its flag and its blocks
-pub is_nothing_lem : (b : Block) → is_nothing b ≡ true → b ≡ Nothing
+is_nothing_lem : (b : Block) → is_nothing b ≡ true → b ≡ Nothing
 is_nothing_lem Nothing e = refl
 is_nothing_lem (Level1 min max avg) e = let z : ◌≡◌ {A = ℕ} 0 1 = cc in absurd (omega arith)
 is_nothing_lem (Level2 t s o p c g m) e = let z : ◌≡◌ {A = ℕ} 0 1 = cc in absurd (omega arith)

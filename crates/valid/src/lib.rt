@@ -1,141 +1,51 @@
-// Whether a record is valid, decided by one walk over its blocks; what is kept of the blocks that were met, by which the walk and the reader
-// decide whether one more may follow, without a look at those blocks; and a record with one block more.
-ghost use Rattle.std.specs.Prelude.{◌≡◌, true, false, ◌&&◌, List, [], ◌∷◌, ◌++◌, ◌<◌, ◌≤◌, length, take};
-ghost use Rattle.record.specs.declared.Block.{Block};
-ghost use Rattle.record.specs.Blocks.{most_blocks, in_range};
-ghost use Rattle.valid.specs.Valid.{among, valid_block, may_follow, repeat_number, with_block, valid};
-ghost use Rattle.valid.specs.Met.{most_targets, target_of, met_of, targets_met};
+// Whether a record is valid, decided by a walk over its blocks; and a record with one block more.
+ghost use Rattle.std.specs.Prelude.{◌≡◌, true, false, not, [], ◌∷◌, ◌+◌, ◌<◌, ◌≤◌, take};
+ghost use Rattle.record.specs.Blocks.{most_blocks, all_blocks};
+ghost use Rattle.valid.specs.Valid.{new_target, may_follow, with_block, valid};
 
 use record::{Block, Place, Record};
 
-// ---- what the blocks that were met leave open
-
-// How many level 2 blocks there may be.
-const TARGETS: usize = 16;
-
-// Stands where no target_max_PQ was met: no field of 12 bits holds it.
-pub const NO_TARGET: u16 = 65535;
-
-// Whether a block of level 1 and one of level 5 were met, and how many of level 2.
-#[derive(Drop)]
-pub struct Met {
-    pub one: bool,
-    pub five: bool,
-    pub twos: u8,
-}
-
-impl Met {
-    pub fn nothing() -> Self
-        ensures { result ≡ met_of [] }
-    {
-        Met {
-            one: false,
-            five: false,
-            twos: 0,
-        }
-    }
-}
-
-// The target_max_PQ of a level 2 block.
-pub fn target_of(b: Block) -> u16
-    ensures { result ≡ target_of b }
+// Two level 2 blocks with one target_max_PQ.
+fn same_target(a: Block, b: Block) -> bool
+    ensures { result ≡ not (new_target (a ∷ []) b) }
 {
-    match b {
-        Block::Nothing => NO_TARGET,
-        Block::Level1 { .. } => NO_TARGET,
+    match a {
+        Block::Nothing => false,
+        Block::Level1 { .. } => false,
         Block::Level2 {
-            target_max_pq: t,
+            target_max_pq: x,
             ..
-        } => t,
-        Block::Level5 { .. } => NO_TARGET,
+        } => match b {
+            Block::Nothing => false,
+            Block::Level1 { .. } => false,
+            Block::Level2 {
+                target_max_pq: y,
+                ..
+            } => x == y,
+            Block::Level5 { .. } => false,
+        },
+        Block::Level5 { .. } => false,
     }
 }
 
-// Whether t is one of the first 16. All are looked at, so that no step hangs on the one before. The length is a condition, because the check
-// knows none of an array behind a reference.
-fn has_target(targets: &[u16; 17], t: u16) -> bool
-    ensures { most_targets ≤ length targets.now → result ≡ among t (take most_targets targets.now) }
+// Whether b may stand behind the first n blocks of r.
+pub fn may_follow(r: Record, n: u8, b: Block) -> bool
+    requires { n ≤ most_blocks }
+    ensures { result ≡ may_follow (take n (all_blocks r)) b }
 {
+    let l = record::level_of(b);
+    let mut seen: u8 = 0;
     let mut met = false;
-    let mut j: usize = 0;
-    while j < TARGETS {
-        met = met | (targets[j] == t);
+    let mut j: u8 = 0;
+    while j < n {
+        let p = r.places[j as usize];
+        let a = p.block;
+        seen += (record::level_of(a) == l) as u8;
+        met = met | same_target(a, b);
         j += 1;
     }
-    met
+    (seen < record::most_of(l)) & !met
 }
-
-// Whether b, whose fields are in range, may stand behind the blocks that were met.
-pub fn admits(m: Met, targets: &[u16; 17], b: Block) -> bool
-    requires { in_range b ≡ true }
-    ensures { (before : List Block) → m ≡ met_of before → targets.now ≡ targets_met before → result ≡ may_follow before b }
-{
-    match b {
-        Block::Nothing => false,
-        Block::Level1 { .. } => !m.one,
-        Block::Level2 {
-            target_max_pq: t,
-            ..
-        } => (m.twos < TARGETS as u8) & !has_target(targets, t),
-        Block::Level5 { .. } => !m.five,
-    }
-}
-
-// 02, e: which repeat b is, where it may not stand behind the blocks that were met: one too many of its level, or else a target_max_PQ
-// already met.
-pub fn repeat_of(m: Met, b: Block) -> u8
-    ensures { (before : List Block) → m ≡ met_of before → may_follow before b ≡ false → result ≡ repeat_number before b }
-{
-    match b {
-        Block::Nothing => 0,
-        Block::Level1 { .. } => refusals::SECOND_LEVEL_1,
-        Block::Level2 { .. } => {
-            if m.twos < TARGETS as u8 {
-                refusals::REPEATED_TARGET
-            } else {
-                refusals::SEVENTEENTH_LEVEL_2
-            }
-        }
-        Block::Level5 { .. } => refusals::SECOND_LEVEL_5,
-    }
-}
-
-// The blocks that were met, and b.
-pub fn including(m: Met, b: Block) -> Met
-    requires { m.twos ≤ most_targets }
-    ensures { (before : List Block) → m ≡ met_of before → result ≡ met_of (before ++ (b ∷ [])) }
-{
-    match b {
-        Block::Nothing => m,
-        Block::Level1 { .. } => Met {
-            one: true,
-            five: m.five,
-            twos: m.twos,
-        },
-        Block::Level2 { .. } => Met {
-            one: m.one,
-            five: m.five,
-            twos: m.twos + 1,
-        },
-        Block::Level5 { .. } => Met {
-            one: m.one,
-            five: true,
-            twos: m.twos,
-        },
-    }
-}
-
-// Whether b is a block that meets the clauses for one block and may stand behind those that were met.
-fn goes_on(m: Met, targets: &[u16; 17], b: Block) -> bool
-    ensures { (before : List Block) → m ≡ met_of before → targets.now ≡ targets_met before → result ≡ valid_block b && may_follow before b }
-{
-    if (record::level_of(b) != 0) & record::in_range(b) & record::in_order(b) {
-        return admits(m, targets, b);
-    }
-    false
-}
-
-// ---- records
 
 // The record with b as its next block.
 pub fn with_block(r: Record, b: Block) -> Record
@@ -149,8 +59,7 @@ pub fn with_block(r: Record, b: Block) -> Record
     q
 }
 
-// Whether r is a valid record: the walk over its blocks, then over the places behind them. It is one function, because each call with a
-// record copies its places.
+// Whether r is a valid record: the walk over its blocks, then over the places behind them. It is one function, and `may_follow` is not asked for the first block, because each call with a record copies its places.
 pub fn is_valid(r: Record) -> bool
     ensures { result ≡ valid r }
 {
@@ -158,17 +67,20 @@ pub fn is_valid(r: Record) -> bool
     if Record::BLOCKS < n {
         return false;
     }
-    let mut seen = Met::nothing();
-    let mut targets: [u16; 17] = [NO_TARGET; 17];
     let mut j: u8 = 0;
     while j < n {
         let p = r.places[j as usize];
         let b = p.block;
-        if goes_on(seen, &targets, b) {
-            let k = seen.twos as usize;
-            targets[k] = target_of(b);
-            seen = including(seen, b);
-            j += 1;
+        if (record::level_of(b) != 0) & record::in_range(b) & record::in_order(b) {
+            if j == 0 {
+                j += 1;
+            } else {
+                if may_follow(r, j, b) {
+                    j += 1;
+                } else {
+                    return false;
+                }
+            }
         } else {
             return false;
         }

@@ -11,8 +11,6 @@ use Rattle.wrapper.proofs.most_wrapped_bytes.Kinds as most-wrapped-bytes
 use Rattle.wrapper.proofs.most_wrapped_bytes.Reads as most-wrapped-bytes-contract
 use Rattle.wrapper.proofs.without_room.Kinds as without-room
 use Rattle.wrapper.proofs.without_room.Reads as without-room-contract
-use Rattle.wrapper.proofs.write_valid.Kinds as write-valid
-use Rattle.wrapper.proofs.write_valid.Reads as write-valid-contract
 use Rattle.wrapper.proofs.write_wrapped.Kinds as write-wrapped
 use Rattle.wrapper.proofs.write_wrapped.Reads as write-wrapped-contract
 
@@ -30,9 +28,6 @@ most_bytes_one κs a x y s t e f = e ∙ sym f
 
 pub most_wrapped_bytes_one : OneResult most-wrapped-bytes.ps most-wrapped-bytes.r most-wrapped-bytes-contract.Post
 most_wrapped_bytes_one κs a x y s t e f = e ∙ sym f
-
-pub write_valid_one : OneResultAndBuffer write-valid.ps write-valid.r write-valid-contract.Post (λ κs s. s.1.0.now)
-write_valid_one κs a x y s t b c e f = (e.0 ∙ sym f.0, e.1 ∙ sym f.1)
 
 pub write_wrapped_one : OneResultAndBuffer write-wrapped.ps write-wrapped.r write-wrapped-contract.Post (λ κs s. s.1.0.now)
 write_wrapped_one κs a x y s t b c e f = (e.0 ∙ sym f.0, e.1 ∙ sym f.1)

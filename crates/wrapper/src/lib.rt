@@ -4,7 +4,6 @@ ghost use Rattle.tree.specs.Bits.{bits_of};
 ghost use Rattle.tree.specs.Syntax.{read};
 ghost use Rattle.tree.specs.Wrapper.{wrapper_table};
 ghost use Rattle.record.specs.Name.{«wrapper»};
-ghost use Rattle.valid.specs.Valid.{valid};
 ghost use Rattle.syntax.specs.Element.{payload};
 ghost use Rattle.syntax.specs.Largest.{largest};
 ghost use Rattle.syntax.specs.Wrapper.{wrapper_bytes, wrapped_payload};
@@ -146,17 +145,16 @@ pub fn without_room(good: bool) -> Written
     }
 }
 
-// Writes wrapped data of a valid record. The data comes first, since only its writer knows whether there is room for it; where that
-// refuses, no byte has changed.
-pub fn write_valid(r: Record, out: &mut [u8]) -> Written
-    requires { valid r ≡ true }
+// Writes wrapped data: any record and any buffer get an answer. The data comes first, since only its writer knows whether there is
+// room for it; where that refuses, no byte has changed.
+pub fn write_wrapped(r: Record, out: &mut [u8]) -> Written
     ensures result { result ≡ write_wrapped r out.old }
     ensures buffer { out.new ≡ wrapped_buffer r out.old }
 {
     if out.len() < WRAPPER_BYTES {
-        return without_room(true);
+        return without_room(valid::is_valid(r));
     }
-    let data = writer::write_valid(r, &mut out[8..]);
+    let data = writer::write_data(r, &mut out[8..]);
     if data.result != 0 {
         return data;
     }
@@ -165,17 +163,6 @@ pub fn write_valid(r: Record, out: &mut [u8]) -> Written
         result: 0,
         bytes: data.bytes + WRAPPER_BYTES,
     }
-}
-
-// Writes wrapped data: any record and any buffer get an answer.
-pub fn write_wrapped(r: Record, out: &mut [u8]) -> Written
-    ensures result { result ≡ write_wrapped r out.old }
-    ensures buffer { out.new ≡ wrapped_buffer r out.old }
-{
-    if valid::is_valid(r) {
-        return write_valid(r, out);
-    }
-    without_room(false)
 }
 
 // The largest payload, bare and wrapped: the limits that the record type carries are those of the syntax.

@@ -3,16 +3,11 @@ use mathlib.Core.Path.{sym, ◌∙◌}
 use Rattle.bits.proofs.OneAnswer.{OneResult, OneResultAndBuffer}
 use Rattle.writer.proofs.bytes_needed.Kinds as bytes-needed
 use Rattle.writer.proofs.bytes_needed.Reads as bytes-needed-contract
-use Rattle.writer.proofs.write_valid.Kinds as write-valid
-use Rattle.writer.proofs.write_valid.Reads as write-valid-contract
 use Rattle.writer.proofs.write_data.Kinds as write-data
 use Rattle.writer.proofs.write_data.Reads as write-data-contract
 
 pub bytes_needed_one : OneResult bytes-needed.ps bytes-needed.r bytes-needed-contract.Post
 bytes_needed_one κs a x y s t e f = e ∙ sym f
-
-pub write_valid_one : OneResultAndBuffer write-valid.ps write-valid.r write-valid-contract.Post (λ κs s. s.1.0.now)
-write_valid_one κs a x y s t b c e f = (e.0 ∙ sym f.0, e.1 ∙ sym f.1)
 
 pub write_data_one : OneResultAndBuffer write-data.ps write-data.r write-data-contract.Post (λ κs s. s.1.0.now)
 write_data_one κs a x y s t b c e f = (e.0 ∙ sym f.0, e.1 ∙ sym f.1)

@@ -7,14 +7,17 @@ use native.Mathlib.Omega.{arith}
 use lib.Dec.{eqb}
 use lib.ListN.{length, take, get_or, get_or-map}
 use lib.Seq.{get_or-take}
+use Rattle.tree.specs.Coding.{total_width}
 use Rattle.tree.specs.Reading.{to_boundary}
-use Rattle.tree.specs.Meaning.{Element, sum_of_widths}
+use Rattle.tree.specs.Meaning.{Element, sum_of_widths, field_elements}
 use Rattle.tree.specs.Codes.{halvings, zeros_of}
+use Rattle.tree.proofs.Elements.{zeros_few}
 use Rattle.tree.proofs.Meaning.{widths_append}
 use Rattle.record.specs.declared.Block.{Block}
-use Rattle.record.specs.declared.Block.TheVariants.{Nothing}
+use Rattle.record.specs.declared.Block.TheVariants.{Nothing, Level1, Level2, Level5}
 use Rattle.record.specs.declared.Record.{Record}
 use Rattle.record.specs.Name.{Name}
+use Rattle.record.specs.Level.{level, level1, level2, level5, reserved, level_of}
 use Rattle.record.specs.Blocks.{most_blocks, empty_place, block_in, all_blocks, blocks, in_range}
 use Rattle.record.proofs.Laws.{block_at, take_more, and_left, and_right}
 use Rattle.valid.specs.Valid.{every, valid}
@@ -22,6 +25,24 @@ use Rattle.valid.proofs.Clauses.{valid_means}
 use Rattle.valid.proofs.Made.{length-blocks}
 use Rattle.syntax.specs.Element.{head_elements, open_elements, block_elements, blocks_elements, elements, payload}
 use Rattle.syntax.proofs.Largest.{widths_to_byte, payload-length}
+
+-- a level's length and the zeros of its code
+pub bytes_small : (l : ℕ) → ((level l).bytes ≤ 11) × (zeros_of (level l).bytes ≤ 3)
+bytes_small l = let h = go (eqb l 1) (eqb l 2) (eqb l 5) in (h, zeros_few 3 (level l).bytes (omega arith))
+  where
+    go : (a b c : Bool) → (cond a level1 (cond b level2 (cond c level5 reserved))).bytes ≤ 11
+    go true b c = omega arith
+    go false true c = omega arith
+    go false false true = omega arith
+    go false false false = omega arith
+
+-- the bits of a block, by its level
+pub block-width : (b : Block) → sum_of_widths (block_elements b) ≡ 2 * zeros_of (level (level_of b)).bytes + 9 + 8 * (level (level_of b)).bytes
+unfolding sum_of_widths field_elements total_width halvings
+block-width Nothing = refl
+block-width (Level1 min max avg) = refl
+block-width (Level2 t s o p c g m) = refl
+block-width (Level5 l r t b) = refl
 
 blocks-append : (before bs : List Block) → blocks_elements (before ++ bs) ≡ blocks_elements before ++ blocks_elements bs
 unfolding blocks_elements

@@ -1,5 +1,7 @@
 -- What writing a record answers, and what the buffer holds then.
-use Rattle.std.specs.Prelude.{ℕ, List}
+use Rattle.std.specs.Prelude.{ℕ, List, [], ◌++◌, Bool, cond, ◌&&◌, leb, length, drop}
+use Rattle.tree.specs.Bits.{bit, code}
+use Rattle.tree.specs.Codes.{ue_code}
 use Rattle.output.specs.declared.Written.{Written}
 use Rattle.output.specs.Output.{writtenAs, bufferAs}
 use Rattle.record.specs.declared.Record.{Record}
@@ -12,3 +14,7 @@ write_bare r out = writtenAs (payload r) (valid r) out
 
 abbrev pub bare_buffer : Record → List ℕ → List ℕ
 bare_buffer r out = bufferAs (payload r) (valid r) out
+
+-- metadata_refresh_flag, and if it is 1, num_ext_blocks
+abbrev pub flag_code : Bool → ℕ → List Bool
+flag_code flag n = code 1 (bit flag) ++ cond flag (ue_code n) []

@@ -11,7 +11,7 @@ same_length : tie.Need-same-length
 same_length c = search rules
 
 returns : tie.Need-returns
-returns c = rw (← code-zero c.before.before.before.before.before.args.n) c.before.before.put-u.ensures
+returns c = rw (code-zero c.before.before.before.before.before.args.n) at c.before.before.put-u.ensures
 
 pub put-zeros-spec : {M : Type 1} → statement M
 put-zeros-spec = tie.close (tie.spec put-u-requires same_length returns)

@@ -14,9 +14,9 @@ use Rattle.plan.specs.Planning.{RisingTags, first_tags, second_tags, plan_of}
 use Rattle.track.specs.declared.Joined.{Joined}
 use Rattle.track.specs.Inner.{scan_of, chosen_of, answer_of}
 use Rattle.track.proofs.Together.{rising_seen}
-use Rattle.tables.specs.Table.{flat_table, table_length, table_in, all_valid}
+use Rattle.tables.specs.Table.{flat_table, table_length, table_in}
 use Rattle.pimlasut.specs.Boundary.{if_sized, is_table, joining, joined_table}
-use Rattle.pimlasut.proofs.Laws.{wrong, right, kept, one_of_three_wrong, none_of_three_wrong, few_points, planned, planned_answer, planned_table, planned_valid}
+use Rattle.pimlasut.proofs.Laws.{wrong, right, kept, one_of_three_wrong, none_of_three_wrong, few_points, planned, planned_answer, planned_table}
 use borrow.Author.Rules.{rules}
 use Rattle.pimlasut.proofs.pim_join.Statement.{statement}
 use Rattle.pimlasut.proofs.pim_join.Tie as tie
@@ -83,12 +83,7 @@ returns-2 c =
     )
 
 fill-requires : tie.Need-fill-requires
-fill-requires c κs =
-    let s = sized c.before.before.before.before.before.before in
-    let d = c.before.before.before in
-    let a = d.before.before.before.before.args in
-    let e = planned-is d in
-    (s.2, s.0, s.1, (λ h. ap (λ (l : Layout). all_valid (map (chosen_of (table_in a.first.now) (table_in a.second.now)) l.sources)) e ∙ planned_valid a.first.now a.first_count a.second.now a.second-count (sym (ap (λ (l : Layout). l.result) e) ∙ h)))
+fill-requires c κs = let s = sized c.before.before.before.before.before.before in (s.2, s.0, s.1)
 
 cast-count : tie.Need-overflow-cast-count
 cast-count c =

@@ -8,7 +8,6 @@ use mir.Val.{to_z, of_z}
 use mir.ValLaws.{to_z-of_z}
 use Rattle.tree.specs.Bits.{bit}
 use Rattle.record.proofs.Laws.{and_both}
-use Rattle.valid.specs.Valid.{valid}
 use Rattle.plan.specs.declared.Scanned.{Scanned}
 use Rattle.plan.specs.declared.Sought.{Sought}
 use Rattle.plan.specs.Limit.{most_points}
@@ -17,7 +16,6 @@ use Rattle.track.specs.declared.Point.{Point}
 use Rattle.track.specs.Inner.{scan_of}
 use Rattle.track.proofs.Looking.{few}
 use Rattle.tables.specs.Table.{flat_point, table_in, found_in}
-use Rattle.tables.proofs.Stand.{found_valid}
 use Rattle.pimlasut.specs.Boundary.{after, is_point, is_table, looking}
 use Rattle.pimlasut.proofs.Laws.{wrong, right, one_wrong, none_wrong, sought, sought_result, sought_found, sought_within, sought_point}
 use borrow.Author.Rules.{rules}
@@ -53,12 +51,8 @@ show-requires : tie.Need-show-requires
 show-requires c κs =
     let a = c.before.before.before.before.before.args in
     let e = found c.before.before in
-    let t = sized c.before.before.before.before in (
-      eqb-true _ _ t.0,
-      eqb-true _ _ t.1,
-      subst (λ (f : Sought). f.found ≡ true → f.at < most_points) (sym e) (sought_within a.table.now a.count a.picture),
-      ap (λ (f : Sought). valid (found_in a.table.now f).«record») e ∙ found_valid a.table.now a.count a.picture,
-    )
+    let t = sized c.before.before.before.before in
+    (eqb-true _ _ t.0, eqb-true _ _ t.1, subst (λ (f : Sought). f.found ≡ true → f.at < most_points) (sym e) (sought_within a.table.now a.count a.picture))
 
 same_length : tie.Need-same-length
 same_length c = search rules

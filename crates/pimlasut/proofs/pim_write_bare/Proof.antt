@@ -1,14 +1,12 @@
 -- `pimlasut::pim_write_bare` meets its contract.
-use mathlib.Core.Path.{refl, sym, ap, ◌∙◌}
-use native.Mathlib.Omega.{arith}
-use borrow.Author.Tests.{not-true, not-false, ne_eqb}
+use mathlib.Core.Path.{refl}
+use borrow.Author.Tests.{ne_eqb}
 use lib.ListN.{length}
-use Rattle.valid.specs.Valid.{valid}
 use Rattle.syntax.specs.Element.{payload}
 use Rattle.writer.specs.Writing.{write_bare}
 use Rattle.flat.specs.Flat.{flat_length, record_in}
 use Rattle.pimlasut.specs.Boundary.{is_record}
-use Rattle.pimlasut.proofs.Laws.{wrong, judged, few_payload_bytes, few_written, given_written, not_written}
+use Rattle.pimlasut.proofs.Laws.{wrong, few_payload_bytes, few_written, given_written}
 use borrow.Author.Rules.{rules}
 use Rattle.pimlasut.proofs.pim_write_bare.Statement.{statement}
 use Rattle.pimlasut.proofs.pim_write_bare.Tie as tie
@@ -18,50 +16,37 @@ returns c =
     let a = c.before.before.args in
     (wrong (is_record a.numbers.now) (write_bare (record_in a.numbers.now) a.out.now).result (ne_eqb (length a.numbers.now) flat_length c.if1.true), (refl, refl))
 
-is-valid-requires : tie.Need-is-valid-requires
-is-valid-requires c κs = search rules
+get-record-requires : tie.Need-get-record-requires
+get-record-requires c κs = search rules
 
-returns-2 : tie.Need-returns-2
-returns-2 c =
-    let a = c.before.before.before.before.args in
-    let l = c.before.before.if1.false in
-    (not_written (payload (record_in a.numbers.now)) a.numbers.now a.out.now l (judged a.numbers.now l c.before.is_valid_lem.ensures (not-true _ c.if2.true)), (refl, refl))
-
-get-valid-requires : tie.Need-get-valid-requires
-get-valid-requires c κs = (omega (arith, c.before.before.if1.false), sym c.before.is_valid_lem.ensures ∙ not-false _ c.if2.false)
-
-write-valid-requires : tie.Need-write-valid-requires
-write-valid-requires c κs = ap valid c.before.get-valid.ensures ∙ sym c.before.before.before.is_valid_lem.ensures ∙ not-false _ c.before.before.if2.false
+write-data-requires : tie.Need-write-data-requires
+write-data-requires c κs = search rules
 
 give-written-requires : tie.Need-give-written-requires
 give-written-requires c κs =
     let made = c.before.before.before in
     let named = made.before.before in
-    let sized = named.before.before.before in
-    let a = sized.before.before.args in
-    few_written payload a.numbers.now a.out.now sized.if1.false named.get-valid.ensures made.write-valid.ensures.0 few_payload_bytes
+    let a = named.before.before.before.args in
+    few_written payload a.numbers.now a.out.now named.before.if1.false named.get-record.ensures made.write-data.ensures.0 few_payload_bytes
 
 same_length : tie.Need-same-length
 same_length c = search rules
 
-returns-3 : tie.Need-returns-3
-returns-3 c =
+returns-2 : tie.Need-returns-2
+returns-2 c =
     let made = c.before.before.before.before in
     let named = made.before.before in
-    let sized = named.before.before.before in
-    let a = sized.before.before.args in
-    given_written payload a.numbers.now a.out.now sized.if1.false named.get-valid.ensures made.write-valid.ensures.0
-    a.written.now made.write-valid.ensures.1 c.give-written.ensures.0 c.give-written.ensures.1
+    let a = named.before.before.before.args in
+    given_written payload a.numbers.now a.out.now named.before.if1.false named.get-record.ensures made.write-data.ensures.0
+    a.written.now made.write-data.ensures.1 c.give-written.ensures.0 c.give-written.ensures.1
 
 pub pim-write-bare-spec : {M : Type 1} → statement M
 pim-write-bare-spec =
     tie.close
     (tie.spec
     returns
-    is-valid-requires
-    returns-2
-    get-valid-requires
-    write-valid-requires
+    get-record-requires
+    write-data-requires
     give-written-requires
     same_length
-    returns-3)
+    returns-2)

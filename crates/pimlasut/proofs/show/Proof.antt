@@ -1,8 +1,11 @@
 -- `pimlasut::show` meets its contract.
-use mathlib.Core.Path.{refl, sym}
+use mathlib.Core.Path.{refl, sym, ap, ◌∙◌}
+use lib.Seq.{paste}
 use Rattle.tree.specs.Bits.{bit}
-use Rattle.tables.specs.Table.{flat_point, found_in}
-use Rattle.pimlasut.proofs.Laws.{kept}
+use Rattle.track.specs.declared.Point.{Point}
+use Rattle.tables.specs.Table.{flat_point, point_length, found_in}
+use Rattle.tables.proofs.Laws.{length_found}
+use Rattle.pimlasut.proofs.Laws.{kept, pasted_whole}
 use borrow.Author.Rules.{rules}
 use Rattle.pimlasut.proofs.show.Statement.{statement}
 use Rattle.pimlasut.proofs.show.Tie as tie
@@ -21,8 +24,11 @@ returns c =
       ),
     )
 
-put-found-requires : tie.Need-put-found-requires
-put-found-requires c κs = let s = c.before.before.before in (s.requires.1, s.requires.0, s.requires.2, s.requires.3)
+found-point-requires : tie.Need-found-point-requires
+found-point-requires c κs = let s = c.before.before in (s.requires.0, s.requires.2)
+
+put-point-requires : tie.Need-put-point-requires
+put-point-requires c κs = search rules
 
 mark-requires : tie.Need-mark-requires
 mark-requires c κs = search rules
@@ -31,7 +37,17 @@ same_length : tie.Need-same-length
 same_length c = search rules
 
 returns-2 : tie.Need-returns-2
-returns-2 c = (sym c.before.before.before.before.if1.false, (c.before.before.put-found.ensures, c.mark.ensures))
+returns-2 c =
+    let s = c.before.before.before.before.before.before.before in
+    let a = s.args in
+    let q = found_in a.table.now a.sought in (
+      sym c.before.before.before.before.before.if1.false,
+      (
+        c.before.before.put-point.ensures ∙ ap (λ (p : Point). paste a.numbers.now 0 (flat_point p) point_length) c.before.before.before.before.found-point.ensures
+            ∙ pasted_whole a.numbers.now (flat_point q) point_length s.requires.1 (length_found a.table.now a.sought),
+        c.mark.ensures,
+      ),
+    )
 
 pub show-spec : {M : Type 1} → statement M
 show-spec =
@@ -39,7 +55,8 @@ show-spec =
     (tie.spec
     cast-result
     returns
-    put-found-requires
+    found-point-requires
+    put-point-requires
     mark-requires
     same_length
     returns-2)

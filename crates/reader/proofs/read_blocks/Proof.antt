@@ -8,7 +8,7 @@ use Rattle.tree.specs.Bits.{bits_of}
 use Rattle.tree.specs.Reading.{ok}
 use Rattle.record.specs.Blocks.{most_blocks}
 use Rattle.valid.specs.Valid.{targets, with_block}
-use Rattle.valid.specs.Met.{most_targets}
+use Rattle.met.specs.Met.{most_targets}
 use Rattle.syntax.specs.Data.{most_announced, announced}
 use Rattle.head.proofs.Laws.{opening_few}
 use Rattle.reader.specs.Reading.{summary, end_from}

@@ -7,12 +7,13 @@ use borrow.Author.Rules.{rules}
 use lib.Dec.{eqb}
 use lib.IntN.{ℤ}
 use lib.ListN.{length, take, drop, get_or, length-map}
-use lib.Seq.{paste}
+use lib.Seq.{paste, take_all}
 use Rattle.plan.specs.Limit.{most_points}
-use Rattle.track.proofs.Filled.{bound_le, bound_done}
+use Rattle.track.specs.declared.Point.{Point}
+use Rattle.track.proofs.Filled.{bound_le}
 use Rattle.flat.proofs.Rows.{paste_more}
-use Rattle.tables.specs.Table.{point_length, chosen_from}
-use Rattle.tables.proofs.Laws.{chosen_own, chosen_valid, laid_out, laid_at, laid_length, pasted_by}
+use Rattle.tables.specs.Table.{flat_point, point_length}
+use Rattle.tables.proofs.Laws.{chosen, length_chosen, laid_out, laid_at, laid_length, pasted_by}
 use Rattle.tables.proofs.fill.Statement.{statement}
 use Rattle.tables.proofs.fill.Tie as tie
 
@@ -32,25 +33,28 @@ long c = sym (length-map c.args.layout.sources _) ∙ c.well-formed.1.1.1.0.1.1.
 loop-holds : tie.Need-loop-init invariant-loop decreases-loop
 loop-holds c = (omega arith, refl, refl)
 
--- an entry that is written is there
-within : (c : tie.In-loop invariant-loop decreases-loop) → c.before.loop.k < most_points
-within c =
+source-at-requires : tie.Need-source-at-requires invariant-loop decreases-loop
+source-at-requires c κs =
     let b = bound_le c.before.before.before.args.layout in
     let e = c.before.before.bound.ensures in
     omega arith
 
-source-at-requires : tie.Need-source-at-requires invariant-loop decreases-loop
-source-at-requires c κs = within c
+chosen-requires : tie.Need-chosen-requires invariant-loop decreases-loop
+chosen-requires c κs = search rules
 
-mul-put-chosen : tie.Need-overflow-mul-put-chosen invariant-loop decreases-loop
-mul-put-chosen c = let h = within c.before.before in omega arith
+mul-put-point : tie.Need-overflow-mul-put-point invariant-loop decreases-loop
+mul-put-point c =
+    let b = bound_le c.before.before.before.before.before.before.args.layout in
+    let e = c.before.before.before.before.before.bound.ensures in
+    omega arith
 
-put-chosen-requires : tie.Need-put-chosen-requires invariant-loop decreases-loop
-put-chosen-requires c κs =
-    let s = c.before.before.before.before.before in
-    let l = c.before.before.before.loop in
-    let h = within c.before.before in
-    (omega (arith, l.invariant.1, s.requires.0), s.requires.1, s.requires.2)
+put-point-requires : tie.Need-put-point-requires invariant-loop decreases-loop
+put-point-requires c κs =
+    let s = c.before.before.before.before.before.before in
+    let l = c.before.before.before.before.loop in
+    let b = bound_le s.args.layout in
+    let e = c.before.before.before.before.before.bound.ensures in
+    omega (arith, l.invariant.1, s.requires.0)
 
 add-k : tie.Need-overflow-add-k invariant-loop decreases-loop
 add-k c = omega arith
@@ -60,31 +64,29 @@ loop-less c = omega arith
 
 loop-again : tie.Need-loop-preserved invariant-loop decreases-loop
 loop-again c =
-    let turn = c.before.before.before.before in
-    let l = turn.before.loop in
-    let s = turn.before.before.before in
-    let put = c.before.put-chosen in
+    let s = c.before.before.before.before.before.before.before.before in
+    let l = c.before.before.before.before.before.before.loop in
+    let put = c.before.put-point in
+    let p = c.before.before.before.chosen.result in
     let a = s.args.first.now in
     let b = s.args.second.now in
     let d = s.args.res.now in
     let n = long s in
-    let k = within turn in
-    let e = turn.before.before.bound.ensures in
+    let k = bound_le s.args.layout in
+    let e = c.before.before.before.before.before.before.before.bound.ensures in
     let sources = s.args.layout.sources in
     let row = laid_out a b sources in
-    let source = get_or sources l.k 0 in
-    let from = chosen_from a b source in
+    let point : p ≡ chosen a b (get_or sources l.k 0) = c.before.before.before.chosen.ensures ∙ ap (chosen a b) c.before.before.before.before.source-at.ensures in
     let h : l.k < length sources = omega arith in
-    let good = chosen_valid a b sources l.k (s.requires.3 (bound_done s.args.layout l.k (omega arith))) h in
-    let next : take point_length from ≡ take point_length (drop (point_length * l.k) row) = chosen_own a b source s.requires.1 s.requires.2 good ∙ sym (laid_at a b sources l.k h) in
+    let next : take point_length (flat_point p) ≡ take point_length (drop (point_length * l.k) row) =
+    take_all point_length (flat_point p) (omega (arith, ap (λ (q : Point). length (flat_point q)) point, length_chosen a b (get_or sources l.k 0))) ∙ ap flat_point point ∙ sym (laid_at a b sources l.k h) in
     let zero : 0 + point_length * l.k ≡ point_length * l.k = omega arith in
     let next-at : point_length * l.k + point_length ≡ point_length * (l.k + 1) = omega arith in (
       omega arith,
       put.auto.0 ∙ l.invariant.1,
-      put.ensures ∙ ap (λ (j : ℕ). paste l.res (point_length * l.k) (chosen_from a b j) point_length) c.before.before.before.source-at.ensures
-          ∙ ap (λ (t : List ℤ). paste t (point_length * l.k) from point_length) l.invariant.2
-          ∙ ap (λ (j : ℕ). paste (paste d 0 row (point_length * l.k)) j from point_length) (sym zero)
-          ∙ paste_more d 0 row (point_length * l.k) from point_length (omega arith) (omega (arith, laid_length a b sources)) next
+      put.ensures ∙ ap (λ (t : List ℤ). paste t (point_length * l.k) (flat_point p) point_length) l.invariant.2
+          ∙ ap (λ (j : ℕ). paste (paste d 0 row (point_length * l.k)) j (flat_point p) point_length) (sym zero)
+          ∙ paste_more d 0 row (point_length * l.k) (flat_point p) point_length (omega arith) (omega (arith, laid_length a b sources)) next
           ∙ ap (paste d 0 row) next-at,
     )
 
@@ -113,8 +115,9 @@ fill_spec =
     bound-requires
     loop-holds
     source-at-requires
-    mul-put-chosen
-    put-chosen-requires
+    chosen-requires
+    mul-put-point
+    put-point-requires
     add-k
     loop-less
     loop-again

@@ -1,20 +1,16 @@
 -- `tables::scan` meets its contract: what has been seen after i points.
-use Prim.Native.Nat.{ℕ, ◌-◌, ◌*◌, ◌≤◌, ◌<◌}
+use Prim.Native.Nat.{ℕ, ◌-◌, ◌≤◌, ◌<◌}
 use mathlib.Core.Path.{◌≡◌, refl, sym, ap, ◌∙◌}
 use native.Mathlib.Numerals.{add-one}
 use native.Mathlib.Omega.{arith}
 use borrow.Author.Rules.{rules}
-use lib.IntN.{ℤ}
-use mir.Syntax.{w32}
-use mir.ValLaws.{to_z-of_z}
 use Rattle.plan.specs.declared.Scanned.{Scanned}
 use Rattle.plan.specs.Limit.{most_points}
-use Rattle.plan.specs.Scanning.{extent_of, begun, noted}
+use Rattle.plan.specs.Scanning.{extent_of, begun}
 use Rattle.track.specs.Inner.{noted_point, scanned_to}
 use Rattle.track.proofs.Within.{extent_le}
-use Rattle.flat.specs.Flat.{number_at}
-use Rattle.tables.specs.Table.{point_length, point_in, table_in}
-use Rattle.tables.proofs.Laws.{length_table, table_at, picture_in}
+use Rattle.tables.specs.Table.{table_in}
+use Rattle.tables.proofs.Laws.{length_table, table_at}
 use Rattle.tables.proofs.scan.Statement.{statement}
 use Rattle.tables.proofs.scan.Tie as tie
 
@@ -33,27 +29,17 @@ begin-requires c κs = search rules
 loop-holds : tie.Need-loop-init invariant-loop decreases-loop
 loop-holds c = (omega arith, refl)
 
--- an entry that is looked at is there
-within : (c : tie.In-loop invariant-loop decreases-loop) → c.before.loop.i < most_points
-within c =
+get-point-requires : tie.Need-get-point-requires invariant-loop decreases-loop
+get-point-requires c κs =
     let e = extent_le most_points c.before.before.before.before.args.count in
     let f = c.before.before.before.extent.ensures in
+    (c.before.before.before.before.requires, omega (arith, e.0))
+
+note-point-requires : tie.Need-note-point-requires invariant-loop decreases-loop
+note-point-requires c κs =
+    let e = extent_le most_points c.before.before.before.before.before.args.count in
+    let f = c.before.before.before.before.extent.ensures in
     omega (arith, e.0)
-
-mul-picture : tie.Need-overflow-mul-picture invariant-loop decreases-loop
-mul-picture c = let h = within c in omega arith
-
-mul-picture-2 : tie.Need-overflow-mul-picture-2 invariant-loop decreases-loop
-mul-picture-2 c = let h = within c in omega arith
-
-shared-slice-copy-out-picture : tie.Need-shared-slice-copy-out-picture invariant-loop decreases-loop
-shared-slice-copy-out-picture c = let h = within c in omega (arith, c.before.before.before.before.requires)
-
-may-stand-requires : tie.Need-may-stand-requires invariant-loop decreases-loop
-may-stand-requires c κs = (c.before.before.before.before.before.requires, within c.before)
-
-note-requires : tie.Need-note-requires invariant-loop decreases-loop
-note-requires c κs = within c.before.before
 
 add-i : tie.Need-overflow-add-i invariant-loop decreases-loop
 add-i c = omega arith
@@ -63,19 +49,16 @@ loop-less c = omega arith
 
 loop-again : tie.Need-loop-preserved invariant-loop decreases-loop
 loop-again c =
-    let s = c.before.before.before.before.before.before.before in
-    let l = c.before.before.before.before.loop in
-    let h = within c.before.before.before in
-    let row = s.args.table.now in
-    let q = scanned_to c.before.before.before.before.before.begin.result (table_in row) l.i in
-    let z = number_at row (point_length * l.i) in
-    let usable = c.before.may-stand.result in (
+    let s = c.before.before.before.before.before.before in
+    let l = c.before.before.before.loop in
+    let e = extent_le most_points s.args.count in
+    let f = c.before.before.before.before.before.extent.ensures in
+    let h : l.i < most_points = omega (arith, e.0) in
+    let t = table_in s.args.table.now in (
       omega arith,
-      c.note.ensures ∙ ap (λ (x : ℤ). noted l.seen l.i x usable) (to_z-of_z w32 z (record { sfits = c.before.before.picture.given }) ∙ picture_in row l.i)
-          ∙ ap (noted l.seen l.i (point_in row l.i).picture) c.before.may-stand.ensures
-          ∙ ap (λ (r : Scanned). noted_point r l.i (point_in row l.i)) l.invariant.1
-          ∙ ap (noted_point q l.i) (sym (table_at row l.i h))
-          ∙ ap (scanned_to c.before.before.before.before.before.begin.result (table_in row)) (sym (add-one l.i)),
+      c.note-point.ensures ∙ ap (λ (q : Scanned). noted_point q l.i c.before.get-point.result) l.invariant.1
+          ∙ ap (noted_point (scanned_to c.before.before.before.before.begin.result t l.i) l.i) (c.before.get-point.ensures ∙ sym (table_at s.args.table.now l.i h))
+          ∙ ap (scanned_to c.before.before.before.before.begin.result t) (sym (add-one l.i)),
     )
 
 returns : tie.Need-returns invariant-loop decreases-loop
@@ -98,11 +81,8 @@ scan-spec =
     extent-requires
     begin-requires
     loop-holds
-    mul-picture
-    mul-picture-2
-    shared-slice-copy-out-picture
-    may-stand-requires
-    note-requires
+    get-point-requires
+    note-point-requires
     add-i
     loop-less
     loop-again

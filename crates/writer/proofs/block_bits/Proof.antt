@@ -1,42 +1,50 @@
--- `writer::block_bits` meets its contract, level by level.
+-- `writer::block_bits` meets its contract.
 use borrow.Author.Rules.{rules}
-use mathlib.Core.Path.{refl}
+use Prim.Native.Nat.{◌≤◌}
+use mathlib.Core.Path.{◌≡◌, ap, ◌∙◌}
 use native.Mathlib.Omega.{arith}
-use Rattle.tree.specs.Codes.{halvings}
-use Rattle.tree.specs.Coding.{total_width}
-use Rattle.tree.specs.Meaning.{sum_of_widths, field_elements}
+use Rattle.tree.specs.Codes.{zeros_of}
+use Rattle.record.specs.Level.{level}
+use Rattle.writer.proofs.Room.{bytes_small}
 use Rattle.writer.proofs.block_bits.Statement.{statement}
 use Rattle.writer.proofs.block_bits.Tie as tie
 
-enum_told : tie.Need-enum-told
-enum_told c = search rules
+bytes-of-requires : tie.Need-bytes-of-requires
+bytes-of-requires c κs = search rules
 
-enum-told-2 : tie.Need-enum-told-2
-enum-told-2 c = search rules
+cast-zeros-of : tie.Need-overflow-cast-zeros-of
+cast-zeros-of c = search rules
 
-enum-told-3 : tie.Need-enum-told-3
-enum-told-3 c = search rules
+zeros-of-requires : tie.Need-zeros-of-requires
+zeros-of-requires c κs = search rules
 
-enum-told-4 : tie.Need-enum-told-4
-enum-told-4 c = search rules
+-- the zeros of the length's code
+few : (c : tie.After-zeros-of) → (c.zeros_of.result ≡ zeros_of (level c.before.before.args.l).bytes) × (c.zeros_of.result ≤ 3)
+few c =
+    let e = c.zeros_of.ensures ∙ ap zeros_of c.before.bytes_of.ensures in
+    (e, omega (arith, e, bytes_small c.before.before.args.l))
+
+mul-result : tie.Need-overflow-mul-result
+mul-result c = omega (arith, few c)
+
+add-result : tie.Need-overflow-add-result
+add-result c = omega (arith, few c)
+
+cast-result : tie.Need-overflow-cast-result
+cast-result c = search rules
+
+mul-result-2 : tie.Need-overflow-mul-result-2
+mul-result-2 c = search rules
+
+add-result-2 : tie.Need-overflow-add-result-2
+add-result-2 c = omega (arith, few c, bytes_small c.before.before.args.l, c.before.bytes_of.ensures)
 
 returns : tie.Need-returns
-unfolding sum_of_widths field_elements total_width halvings
-returns c = rw c.enum_told.given.1 (refl, omega arith)
-
-returns-2 : tie.Need-returns-2
-unfolding sum_of_widths field_elements total_width halvings
-returns-2 c = rw c.enum-told2.given.1 (refl, omega arith)
-
-returns-3 : tie.Need-returns-3
-unfolding sum_of_widths field_elements total_width halvings
-returns-3 c = rw c.enum-told3.given.1 (refl, omega arith)
-
-returns-4 : tie.Need-returns-4
-unfolding sum_of_widths field_elements total_width halvings
-returns-4 c = rw c.enum-told4.given.1 (refl, omega arith)
+returns c =
+    let f = few c in
+    let b = c.before.bytes_of.ensures in
+    (omega (arith, f, b), omega (arith, f, b, bytes_small c.before.before.args.l))
 
 pub block-bits-spec : {M : Type 1} → statement M
 block-bits-spec =
-    tie.close
-    (tie.spec enum_told enum-told-2 enum-told-3 enum-told-4 returns returns-2 returns-3 returns-4)
+    tie.close (tie.spec bytes-of-requires cast-zeros-of zeros-of-requires mul-result add-result cast-result mul-result-2 add-result-2 returns)

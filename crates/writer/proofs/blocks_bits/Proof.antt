@@ -6,8 +6,9 @@ use borrow.Author.Rules.{rules}
 use lib.ListN.{length, take, length-map}
 use Rattle.tree.specs.Meaning.{sum_of_widths}
 use Rattle.record.specs.Blocks.{most_blocks, all_blocks}
-use Rattle.syntax.specs.Element.{blocks_elements}
-use Rattle.writer.proofs.Room.{widths_more}
+use Rattle.record.proofs.Laws.{block_at}
+use Rattle.syntax.specs.Element.{block_elements, blocks_elements}
+use Rattle.writer.proofs.Room.{block-width, widths_more}
 use Rattle.writer.proofs.blocks_bits.Statement.{statement}
 use Rattle.writer.proofs.blocks_bits.Tie as tie
 
@@ -34,6 +35,9 @@ mul-p c = search rules
 element-copy-out-p : tie.Need-element-copy-out-p invariant-loop decreases-loop
 element-copy-out-p c = omega arith
 
+level-of-requires : tie.Need-level-of-requires invariant-loop decreases-loop
+level-of-requires c κs = search rules
+
 block-bits-requires : tie.Need-block-bits-requires invariant-loop decreases-loop
 block-bits-requires c κs = search rules
 
@@ -48,10 +52,12 @@ loop-less c = omega arith
 
 loop-again : tie.Need-loop-preserved invariant-loop decreases-loop
 loop-again c =
-    let s = c.before.before.before.before in
-    let l = c.before.before.before.loop in
+    let s = c.before.before.before.before.before in
+    let l = c.before.before.before.before.loop in
+    let b = block_at s.args.t1 l.j in
     let h : l.j < length s.args.t1.places = omega (arith, long s) in
-    (omega arith, omega (arith, c.block_bits_lem.ensures.0, widths_more s.args.t1 l.j h), omega (arith, c.block_bits_lem.ensures.1))
+    let w : c.block_bits_lem.result ≡ sum_of_widths (block_elements b) = c.block_bits_lem.ensures.0 ∙ rw c.before.level_of_lem.ensures (sym (block-width b)) in
+    (omega arith, omega (arith, w, widths_more s.args.t1 l.j h), omega (arith, c.block_bits_lem.ensures.1))
 
 returns : tie.Need-returns invariant-loop decreases-loop
 returns c =
@@ -69,6 +75,7 @@ blocks-bits-spec =
     cast-p
     mul-p
     element-copy-out-p
+    level-of-requires
     block-bits-requires
     add-sum
     add-j

@@ -1,113 +1,107 @@
--- `writer::put_block` meets its contract, level by level.
+-- `writer::put_block` meets its contract: the length, the level, the fields and the zero bits, one behind the other.
 use borrow.Author.Rules.{rules}
-use mathlib.Core.Path.{◌≡◌}
+use Prim.Native.Nat.{◌+◌}
+use mathlib.Core.Path.{◌≡◌, ◌∙◌, ap}
+use mathlib.Core.List.{◌++◌}
 use native.Mathlib.Omega.{arith}
-use lib.IntN.{ℤ}
-use mir.Val.{to_z, of_z}
-use mir.Syntax.{w16}
-use Rattle.tree.specs.Codes.{halvings}
-use Rattle.tree.specs.Coding.{total_width}
-use Rattle.tree.specs.Meaning.{sum_of_widths, field_elements}
-use Rattle.writer.proofs.Parts.{nothing_word}
+use lib.ListN.{length-append}
+use Rattle.tree.specs.Bits.{code}
+use Rattle.tree.specs.Codes.{ue_code}
+use Rattle.tree.specs.Coding.{fields_code, total_width}
+use Rattle.tree.proofs.Bits.{length-code}
+use Rattle.tree.proofs.Elements.{length_fields}
+use Rattle.pen.proofs.Writing.{wrote_then, room_left}
+use Rattle.record.specs.Level.{level, codings, padding, level_of, values_of}
+use Rattle.writer.proofs.Room.{bytes_small}
+use Rattle.writer.proofs.Parts.{block_bits_lem, block_parts, padding_small}
 use Rattle.writer.proofs.put_block.Statement.{statement}
 use Rattle.writer.proofs.put_block.Tie as tie
 
-enum_told : tie.Need-enum-told
-enum_told c = search rules
+level-of-requires : tie.Need-level-of-requires
+level-of-requires c κs = search rules
 
-put-word-requires : tie.Need-put-word-requires
-unfolding sum_of_widths field_elements total_width halvings
-put-word-requires c κs =
-    let s = c.before.before.before.before in
-    let r = rw c.before.enum_told.given.1 at s.requires.1 in
-    (s.requires.0, r, omega arith, omega arith)
+bytes-of-requires : tie.Need-bytes-of-requires
+bytes-of-requires c κs = search rules
 
-enum-known-b : tie.Need-enum-known-b
-enum-known-b c = search rules
+padding-of-requires : tie.Need-padding-of-requires
+padding-of-requires c κs = search rules
 
-put-level1-requires : tie.Need-put-level1-requires
-unfolding sum_of_widths field_elements total_width halvings
-put-level1-requires c κs =
+-- what the block's level says
+length-is : (c : tie.After-padding-of) → c.before.bytes_of.result ≡ (level (level_of c.before.before.before.before.args.b)).bytes
+length-is c = c.before.bytes_of.ensures ∙ ap (λ l. (level l).bytes) c.before.before.level_of_lem.ensures
+
+zeros-are : (c : tie.After-padding-of) → c.padding-of.result ≡ padding (level_of c.before.before.before.before.args.b)
+zeros-are c = c.padding-of.ensures ∙ ap padding c.before.before.level_of_lem.ensures
+
+cast-put-ue : tie.Need-overflow-cast-put-ue
+cast-put-ue c = search rules
+
+put-ue-requires : tie.Need-put-ue-requires
+put-ue-requires c κs =
     let s = c.before.before.before.before.before in
-    let e = c.before.before.b.given.1 in
-    let r = rw e at s.requires.1 in
-    let h = rw e at s.requires.2 in
-    (s.requires.0, r, h)
+    rw (length-is c.before) (s.requires.0, omega (arith, s.requires.1, block_parts s.args.b), omega (arith, bytes_small (level_of s.args.b)))
 
-enum-known-b-2 : tie.Need-enum-known-b-2
-enum-known-b-2 c = search rules
+cast-put-u : tie.Need-overflow-cast-put-u
+cast-put-u c = search rules
 
--- ms_weight, as it stands in the block
-weight : (c : tie.After-put-level2-arg) → ℤ
-weight c = c.before.before.b2.given.0.1.1.1.1.1.1.0
+put-u-requires : tie.Need-put-u-requires
+put-u-requires c κs =
+    let s = c.before.before.before.before.before.before.before.before.before in
+    let length-put = rw (length-is c.before.before.before.before.before) at c.before.before.before.put-ue.ensures in
+    (length-put.sound, room_left length-put 8 (omega (arith, s.requires.1, block_parts s.args.b)), omega arith)
 
-same-weight : (c : tie.After-put-level2-arg) → to_z w16 (of_z w16 (weight c)) ≡ weight c
-unfolding weight
-same-weight c = search rules
+put-fields-requires : tie.Need-put-fields-requires
+put-fields-requires c κs =
+    let s = c.before.before.before.before.before.before.before.before.before.before.before.before.before in
+    let b = s.args.b in
+    let length-put = rw (length-is c.before.before.before.before.before.before.before.before.before) at c.before.before.before.before.before.before.before.put-ue.ensures in
+    let level-put = rw c.before.before.before.before.before.before.before.before.before.before.before.level_of_lem.ensures at c.before.before.before.put-u.ensures in
+    let both = wrote_then length-put level-put in
+    let l = length-append (ue_code (level (level_of b)).bytes) (code 8 (level_of b)) in
+    (both.sound, room_left both (total_width (codings (level_of b))) (omega (arith, s.requires.1, block_parts b, l, length-code 8 (level_of b))), s.requires.2)
 
-put-level2-requires : tie.Need-put-level2-requires
-unfolding weight sum_of_widths field_elements total_width halvings
-put-level2-requires c κs =
-    let s = c.before.before.before.before.before in
-    let e = c.before.before.b2.given.1 in
-    let r = rw e at s.requires.1 in
-    let h = rw e at s.requires.2 in
-    (s.requires.0, r, rw (same-weight c) h)
+cast-put-zeros : tie.Need-overflow-cast-put-zeros
+cast-put-zeros c = search rules
 
-enum-known-b-3 : tie.Need-enum-known-b-3
-enum-known-b-3 c = search rules
-
-put-level5-requires : tie.Need-put-level5-requires
-unfolding sum_of_widths field_elements total_width halvings
-put-level5-requires c κs =
-    let s = c.before.before.before.before.before in
-    let e = c.before.before.b3.given.1 in
-    let r = rw e at s.requires.1 in
-    let h = rw e at s.requires.2 in
-    (s.requires.0, r, h)
+put-zeros-requires : tie.Need-put-zeros-requires
+put-zeros-requires c κs =
+    let s = c.before.before.before.before.before.before.before.before.before.before.before.before.before.before.before.before.before in
+    let b = s.args.b in
+    let length-put = rw (length-is c.before.before.before.before.before.before.before.before.before.before.before.before.before) at c.before.before.before.before.before.before.before.before.before.before.before.put-ue.ensures in
+    let level-put = rw c.before.before.before.before.before.before.before.before.before.before.before.before.before.before.before.level_of_lem.ensures at c.before.before.before.before.before.before.before.put-u.ensures in
+    let all = wrote_then (wrote_then length-put level-put) c.before.before.before.put-fields.ensures in
+    let k = length-append (ue_code (level (level_of b)).bytes ++ code 8 (level_of b)) (fields_code (codings (level_of b)) (values_of b)) in
+    let l = length-append (ue_code (level (level_of b)).bytes) (code 8 (level_of b)) in
+    rw (zeros-are c.before.before.before.before.before.before.before.before.before.before.before.before.before) (
+      all.sound,
+      room_left all (padding (level_of b)) (omega (arith, s.requires.1, block_parts b, k, l, length-code 8 (level_of b), length_fields (codings (level_of b)) (values_of b) s.requires.2)),
+      padding_small b,
+    )
 
 same_length : tie.Need-same-length
 same_length c = search rules
 
 returns : tie.Need-returns
-returns c = rw (c.before.before.before.before.enum_told.given.1, ← nothing_word.coded) c.before.before.put_word.ensures
-
-same-length-2 : tie.Need-same-length-2
-same-length-2 c = search rules
-
-returns-2 : tie.Need-returns-2
-returns-2 c = rw c.before.before.before.before.before.b.given.1 c.before.before.put-level1.ensures
-
-same-length-3 : tie.Need-same-length-3
-same-length-3 c = search rules
-
-returns-3 : tie.Need-returns-3
-unfolding weight
-returns-3 c = rw c.before.before.before.before.before.b2.given.1 (rw (same-weight c.before.before.before) at c.before.before.put-level2.ensures)
-
-same-length-4 : tie.Need-same-length-4
-same-length-4 c = search rules
-
-returns-4 : tie.Need-returns-4
-returns-4 c = rw c.before.before.before.before.before.b3.given.1 c.before.before.put-level5.ensures
+returns c =
+    let b = c.before.before.before.before.before.before.before.before.before.before.before.before.before.before.before.before.before.before.before.before.args.b in
+    let length-put = rw (length-is c.before.before.before.before.before.before.before.before.before.before.before.before.before.before.before.before) at c.before.before.before.before.before.before.before.before.before.before.before.before.before.before.put-ue.ensures in
+    let level-put = rw c.before.before.before.before.before.before.before.before.before.before.before.before.before.before.before.before.before.before.level_of_lem.ensures at c.before.before.before.before.before.before.before.before.before.before.put-u.ensures in
+    let zeros-put = rw (zeros-are c.before.before.before.before.before.before.before.before.before.before.before.before.before.before.before.before) at c.before.before.put-zeros.ensures in
+    rw (block_bits_lem b) (wrote_then length-put (wrote_then level-put (wrote_then c.before.before.before.before.before.before.put-fields.ensures zeros-put)))
 
 pub put-block-spec : {M : Type 1} → statement M
 put-block-spec =
     tie.close
     (tie.spec
-    enum_told
-    put-word-requires
-    enum-known-b
-    put-level1-requires
-    enum-known-b-2
-    put-level2-requires
-    enum-known-b-3
-    put-level5-requires
+    level-of-requires
+    bytes-of-requires
+    padding-of-requires
+    cast-put-ue
+    put-ue-requires
+    cast-put-u
+    put-u-requires
+    put-fields-requires
+    cast-put-zeros
+    put-zeros-requires
     same_length
-    returns
-    same-length-2
-    returns-2
-    same-length-3
-    returns-3
-    same-length-4
-    returns-4)
+    returns)
