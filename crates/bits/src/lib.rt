@@ -1,5 +1,7 @@
 // Bits of a lent slice, most significant first: u(n), ue(v) and zero bits, read at a bit position, and the sign of i(n). Any position that 32
 // bits hold (31 for zero bits, with all of them) gets an answer, and nothing here knows what the bits mean.
+#![tactic(auto)]
+
 ghost use Rattle.std.specs.Prelude.{◌≡◌, ℕ, ◌+◌, ◌-◌, ◌*◌, ◌/◌, ◌<◌, ◌≤◌, ◌^◌, length, drop, take};
 ghost use Rattle.refusals.specs.Refusals.{not_zero};
 ghost use Rattle.tree.specs.Bits.{bits_of, value};
@@ -11,7 +13,7 @@ ghost use Rattle.bits.specs.Answer.{nameless, number_of, span_of, refused_number
 pub const MOST_ZEROS: usize = 31;
 
 // A number that was read and how many bits it took, or why there is none.
-#[derive(Drop)]
+#[derive(Clone, Copy)]
 pub enum Number {
     Is { value: u32, width: usize },
     Refused { number: u8, offset: u32 },
@@ -64,7 +66,7 @@ pub fn to_signed(v: u32, n: usize) -> i32
 
 // The bits of a ue(v) code up to the end of the byte that holds its first one: the number that they are, how many they are, and the byte
 // behind them; or why there is none. Where they are all zeros so far, the next byte is all that counts, and no byte is loaded twice.
-#[derive(Drop)]
+#[derive(Clone, Copy)]
 enum Lead {
     Is {
         value: u64,

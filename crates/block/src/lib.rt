@@ -1,4 +1,6 @@
 // Reads one ext_dm_data_block at a bit position.
+#![tactic(auto)]
+
 ghost use Rattle.std.specs.Prelude.{◌≡◌, ℕ, ◌+◌, ◌*◌, ◌<◌, ◌≤◌, ◌^◌, pos, length, drop};
 ghost use Rattle.tree.specs.Bits.{bits_of};
 ghost use Rattle.tree.specs.Syntax.{read};
@@ -15,7 +17,7 @@ pub const MOST_RESERVED: u32 = 1023;
 
 // A block of a known level, which is kept, or one of a reserved level, which is passed over, and how many bits it took; or why there is
 // none.
-#[derive(Drop)]
+#[derive(Clone, Copy)]
 pub enum Part {
     Kept {
         width: usize,

@@ -1,5 +1,7 @@
 // Why data was refused, as numbers: the element, its value there, and which values are allowed. A refusal on its way holds its number, its
 // element and where that begins; the value and what is allowed are read again there, so that an accepted payload pays nothing for them.
+#![tactic(auto)]
+
 ghost use Rattle.std.specs.Prelude.{◌≡◌, ◌<◌, ◌^◌, drop};
 ghost use Rattle.tree.specs.Bits.{bits_of};
 ghost use Rattle.syntax.specs.Data.{lengths, bare_data};
@@ -12,7 +14,7 @@ use element::Element;
 
 // What is told of the values that are allowed: nothing, where the element is not whole or has no value; those from the lowest to the highest,
 // and none if the lowest is above it; or others than those that were met.
-#[derive(Drop)]
+#[derive(Clone, Copy)]
 pub enum Kind {
     Untold,
     Range,
@@ -20,7 +22,7 @@ pub enum Kind {
 }
 
 // The lowest and the highest are 0 where there is no range. The value has 64 bits because it can be a number of bytes.
-#[derive(Drop)]
+#[derive(Clone, Copy)]
 pub struct Cause {
     pub element: Element,
     pub kind: Kind,

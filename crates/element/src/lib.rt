@@ -1,10 +1,12 @@
 // What a refusal is about: the names of the syntax elements of A/341, tables E.1.1 to E.1.3, in their order there; then what is none of them,
 // the end of the data and a byte of the wrapper. And the number by which each crosses to C.
+#![tactic(auto)]
+
 ghost use Rattle.std.specs.Prelude.{◌≡◌};
 ghost use Rattle.element.specs.Element.{number_of};
 
 // Nothing, where a reading is not refused, or not for an element.
-#[derive(Drop)]
+#[derive(Clone, Copy)]
 pub enum Element {
     Nothing,
     AppIdentifier,

@@ -1,4 +1,6 @@
 // Emulation prevention in a NAL unit (H.265, 7.3.1.1): where two zero bytes would be followed by 00 to 03, a byte 03 is put between.
+#![tactic(auto)]
+
 ghost use Rattle.std.specs.Prelude.{◌≡◌, ◌++◌, ◌≤◌, ◌<◌, ◌^◌, length, drop};
 ghost use Rattle.emulation.specs.Emulation.{forbidden, begins_forbidden, removed, escaped, zeros_behind};
 

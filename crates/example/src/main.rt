@@ -1,4 +1,6 @@
 // Reads two payloads and prints of each the maximum of the scene's PQ range, or the number of its refusal.
+#![tactic(auto)]
+
 use record::{Block, Record};
 
 const OUT: i32 = libc::STDOUT_FILENO;

@@ -1,4 +1,6 @@
 // Reads the fields of a level at a bit position.
+#![tactic(auto)]
+
 ghost use Rattle.std.specs.Prelude.{◌≡◌, cond, ◌+◌, ◌-◌, ◌*◌, ◌/◌, ◌%◌, ◌<◌, ◌≤◌, ◌^◌, leb, length, drop};
 ghost use Rattle.refusals.specs.Refusals.{past_end};
 ghost use Rattle.tree.specs.Bits.{bits_of};
@@ -13,7 +15,7 @@ use element::Element;
 use record::Block;
 
 // A block that was read and how many bits it took, or why there is none.
-#[derive(Drop)]
+#[derive(Clone, Copy)]
 pub enum Step {
     Is {
         block: Block,

@@ -1,4 +1,6 @@
 // A record as a row of numbers, for callers that have no Record.
+#![tactic(auto)]
+
 ghost use Rattle.std.specs.Prelude.{◌≡◌, ◌+◌, ◌*◌, ◌≤◌, length, take, drop};
 ghost use Rattle.std.proofs.Math.Seq.{paste};
 ghost use Rattle.record.specs.Blocks.{most_blocks};

@@ -1,4 +1,6 @@
 // Reads what stands before the blocks of ST2094-10_data: table E.1.1 of A/341 as far as num_ext_blocks, and the zero bits behind it.
+#![tactic(auto)]
+
 ghost use Rattle.std.specs.Prelude.{◌≡◌, cond, ◌+◌, ◌<◌, ◌≤◌, ◌^◌, drop};
 ghost use Rattle.tree.specs.Bits.{bits_of};
 ghost use Rattle.tree.specs.Reading.{to_boundary};
@@ -18,7 +20,7 @@ pub const VERSION: u32 = 0;
 pub const MOST_ANNOUNCED: u32 = 254;
 
 // What stands before the blocks and how many bits it took, or why there is none.
-#[derive(Drop)]
+#[derive(Clone, Copy)]
 pub enum Opening {
     Is {
         refresh: bool,

@@ -1,1 +1,2 @@
 // Rising lists of keyed points: definitions in specs/, their laws in proofs/. No code.
+#![tactic(auto)]

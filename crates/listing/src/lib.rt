@@ -1,4 +1,6 @@
 // Writes the listing of a reading, key=value lines in ASCII, into a lent buffer.
+#![tactic(auto)]
+
 ghost use Rattle.std.specs.Prelude.{◌≡◌, true, [], ◌∷◌, ◌≤◌, length, pos};
 ghost use Rattle.text.specs.Text.{text};
 ghost use Rattle.text.specs.Typing.{RoomForText, Typed};

@@ -1,4 +1,6 @@
 // The messages of an SEI unit, in its bytes without emulation bytes (H.265, 7.3.2.4 and 7.3.5): ours is found and read, or written.
+#![tactic(auto)]
+
 ghost use Rattle.std.specs.Prelude.{◌≡◌, ◌+◌, ◌≤◌, ◌<◌, ◌^◌, length, drop};
 ghost use Rattle.rbsp.specs.Message.{chain, frame_of, is_end, message, messages_in};
 ghost use Rattle.messages.specs.Answer.{number_at, framed_at, sized_at, content_at, first_in, or_ours, found_first, FirstWithin, FoundWithin, ours_among, stands_at, read_messages, write_message, message_buffer};
@@ -20,14 +22,14 @@ const TRAILING: u8 = 0x80;
 pub const BYTES: usize = Record::WRAPPED_BYTES + 3;
 
 // A type or a size and the place behind it, or the bytes end within it.
-#[derive(Drop)]
+#[derive(Clone, Copy)]
 enum Number {
     PastEnd,
     Is { value: usize, next: usize },
 }
 
 // A message that is there whole, or the bytes end within it.
-#[derive(Drop)]
+#[derive(Clone, Copy)]
 enum Framed {
     PastEnd,
     Is {
@@ -38,7 +40,7 @@ enum Framed {
 }
 
 // Where the first of our messages has its content, if there is one so far.
-#[derive(Drop)]
+#[derive(Clone, Copy)]
 struct First {
     there: bool,
     start: usize,
@@ -46,7 +48,7 @@ struct First {
 }
 
 // The same once the bytes are known to be messages, or they are none.
-#[derive(Drop)]
+#[derive(Clone, Copy)]
 enum Found {
     Broken,
     Nothing,

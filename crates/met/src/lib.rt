@@ -1,4 +1,6 @@
 // What the known blocks that were read leave open: whether one more may follow them, without a look at the record that holds them.
+#![tactic(auto)]
+
 ghost use Rattle.std.specs.Prelude.{◌≡◌, true, false, List, [], ◌∷◌, ◌++◌, ◌≤◌, length, take};
 ghost use Rattle.record.specs.declared.Block.{Block};
 ghost use Rattle.record.specs.Blocks.{in_range};
@@ -14,7 +16,7 @@ const TARGETS: usize = 16;
 pub const NO_TARGET: u16 = 65535;
 
 // Whether a block of level 1 and one of level 5 were met, and how many of level 2.
-#[derive(Drop)]
+#[derive(Clone, Copy)]
 pub struct Met {
     pub one: bool,
     pub five: bool,

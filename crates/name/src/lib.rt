@@ -1,4 +1,6 @@
 // The names of what a refusal is about, typed into a lent buffer.
+#![tactic(auto)]
+
 ghost use Rattle.std.specs.Prelude.{◌≡◌, ◌<◌, get_or};
 ghost use Rattle.text.specs.Text.{ascii};
 ghost use Rattle.text.specs.Typing.{RoomForText, Typed};

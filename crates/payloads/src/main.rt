@@ -1,6 +1,8 @@
 // Reads every payload that document 01 gives, the ms_weight examples among them, bare and behind the wrapper, and prints for each its
 // name and its listing, and of a refused one where it is refused. Two of them, 58 50 and 5A 81 80, have another outcome since request
 // b, and 00 00 since request d, whose 00 00 00 00 stands beside it.
+#![tactic(auto)]
+
 use reader::Reading;
 
 const OUT: i32 = libc::STDOUT_FILENO;

@@ -1,5 +1,7 @@
 // Bits written into a lent buffer, most significant first: u(n), i(n), ue(v) and zero bits, through a pen that goes by value.
 // Bytes past the pen stay as they are.
+#![tactic(auto)]
+
 ghost use Rattle.std.specs.Prelude.{◌≡◌, true, false, [], ◌∷◌, ◌+◌, ◌<◌, ◌≤◌, ◌^◌, length, replicate};
 ghost use Rattle.tree.specs.Bits.{code, odd};
 ghost use Rattle.tree.specs.Coding.{signed, holds, complement};
@@ -7,7 +9,7 @@ ghost use Rattle.tree.specs.Codes.{zeros_of, ue_code};
 ghost use Rattle.pen.specs.Writing.{start_pen, Sound, RoomForBits, Wrote};
 
 // Where the next whole byte goes, and the bits that wait for it, as a number.
-#[derive(Drop)]
+#[derive(Clone, Copy)]
 pub struct Pen {
     pub at: usize,
     pub waiting: usize,

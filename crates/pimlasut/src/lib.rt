@@ -2,6 +2,8 @@
 // A record crosses as 146 numbers and a table of points as 9,472 (crates flat, tables), because no enum crosses.
 // Every function answers the result number; on a refusal every lent array and number stays as it was, but the facts of a reading, which
 // say where and why then.
+#![tactic(auto)]
+
 ghost use Rattle.std.specs.Prelude.{◌≡◌, true, ◌&&◌, ◌∷◌, ◌<◌, eqb, length};
 ghost use Rattle.tree.specs.Bits.{bit};
 ghost use Rattle.record.specs.Blocks.{most_blocks};

@@ -1,4 +1,6 @@
 // What the track functions decide on picture numbers and places alone. No point is seen here.
+#![tactic(auto)]
+
 ghost use Rattle.std.specs.Prelude.{◌≡◌, true, ◌+◌, ◌<◌, ◌≤◌, take};
 ghost use Rattle.plan.specs.Limit.{most_points};
 ghost use Rattle.plan.specs.Scanning.{extent_of, begun, rises_at, noted};
@@ -22,7 +24,7 @@ pub fn most_points() -> usize
 }
 
 // What has been seen of a table so far: whether it may be a track, the last number, and the numbers.
-#[derive(Drop)]
+#[derive(Clone, Copy)]
 pub struct Scanned {
     pub track: bool,
     pub last: i32,
@@ -71,7 +73,7 @@ pub fn note(seen: Scanned, index: usize, picture: i32, usable: bool) -> Scanned
 }
 
 // How a result is to be filled: the answer, and where each entry comes from.
-#[derive(Drop)]
+#[derive(Clone, Copy)]
 pub struct Layout {
     pub result: u8,
     pub count: usize,
@@ -113,7 +115,7 @@ pub fn right(source: u8) -> usize
 }
 
 // What comes next in a join, and how many numbers it takes off each track.
-#[derive(Drop)]
+#[derive(Clone, Copy)]
 pub struct Turn {
     pub source: u8,
     pub left: usize,
@@ -237,7 +239,7 @@ pub fn reach(pictures: [i32; POINTS], n: usize, picture: i32) -> usize
 }
 
 // The place of the point in force, where there is one.
-#[derive(Drop)]
+#[derive(Clone, Copy)]
 pub struct Sought {
     pub result: u8,
     pub found: bool,

@@ -1,1 +1,2 @@
 // The messages of an SEI unit: definitions in specs/, their laws in proofs/. No code.
+#![tactic(auto)]

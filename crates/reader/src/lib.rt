@@ -1,4 +1,6 @@
 // Reads ST2094-10_data from a lent slice.
+#![tactic(auto)]
+
 ghost use Rattle.std.specs.Prelude.{◌≡◌, false, cond, ◌<◌, ◌^◌, eqb, drop};
 ghost use Rattle.refusals.specs.Refusals.{repeated_target};
 ghost use Rattle.tree.specs.Bits.{bits_of};
@@ -20,7 +22,7 @@ use record::{Place, Record};
 
 // 0 or the number of the refusal, the number of blocks of reserved levels that were passed over and whether a refusal is in the wrapper
 // (beside it, where they take no room of their own), the bits read, where a refused element begins, why it is refused, and the record.
-#[derive(Drop)]
+#[derive(Clone, Copy)]
 pub struct Reading {
     pub result: u8,
     pub skipped: u8,
@@ -78,7 +80,7 @@ fn repeated(number: u8) -> Element
 }
 
 // The position where the data ends, or why it does not.
-#[derive(Drop)]
+#[derive(Clone, Copy)]
 enum End {
     Is {
         bits: u32,

@@ -1,4 +1,6 @@
 // Writes why a reading was refused, key=value lines in ASCII, into a lent buffer.
+#![tactic(auto)]
+
 ghost use Rattle.std.specs.Prelude.{◌≡◌, length};
 ghost use Rattle.text.specs.Text.{ascii};
 ghost use Rattle.text.specs.Typing.{RoomForText, Typed};

@@ -1,10 +1,12 @@
 // The record: a refresh flag, a block count and 18 places.
+#![tactic(auto)]
+
 ghost use Rattle.std.specs.Prelude.{◌≡◌, true, false, not, [], ◌∷◌, ◌+◌, ◌<◌, ◌≤◌, take};
 ghost use Rattle.record.specs.Level.{level, known, padding, level_of};
 ghost use Rattle.record.specs.Blocks.{most_blocks, no_blocks, empty_record, in_range, in_order};
 
 // What a place holds: nothing, or a block of one of the three levels with that level's own fields, named as in A/341.
-#[derive(Drop)]
+#[derive(Clone, Copy)]
 pub enum Block {
     Nothing,
     Level1 {
@@ -29,12 +31,12 @@ pub enum Block {
     },
 }
 
-#[derive(Drop)]
+#[derive(Clone, Copy)]
 pub struct Place {
     pub block: Block,
 }
 
-#[derive(Drop)]
+#[derive(Clone, Copy)]
 pub struct Record {
     pub refresh: bool,
     pub count: u8,

@@ -1,4 +1,6 @@
 // The refusal numbers of document 01 and of the requests after it, each named once. Nothing here knows a syntax.
+#![tactic(auto)]
+
 pub const PAST_END: u8 = 1;
 
 pub const TOO_MANY_ZEROS: u8 = 2;

@@ -1,4 +1,6 @@
 // An H.265 SEI NAL unit whole: two header bytes, emulation prevention bytes, messages, and the trailing byte.
+#![tactic(auto)]
+
 ghost use Rattle.std.specs.Prelude.{◌≡◌, true, ◌++◌, ◌≤◌, ◌<◌, ◌^◌, length};
 ghost use Rattle.output.specs.Output.{writtenAs, bufferAs};
 ghost use Rattle.emulation.specs.Emulation.{removed, escaped};

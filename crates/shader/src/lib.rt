@@ -1,4 +1,6 @@
 // The numbers that the shader gets for a level 2 block: each exactly its code divided by 4,096.
+#![tactic(auto)]
+
 ghost use Rattle.std.specs.Prelude.{◌≡◌, true, map, ◌<◌, pos, replicate};
 ghost use Rattle.std.specs.Int.Signed.{mag};
 ghost use Rattle.std.specs.Float.{binary32};
@@ -15,7 +17,7 @@ use record::Block;
 const NOT_CONVERTIBLE: u8 = refusals::NOT_VALID;
 
 // The seven numbers, in the order of the block's fields.
-#[derive(Drop)]
+#[derive(Clone, Copy)]
 pub struct Numbers {
     pub target_max_pq: f32,
     pub trim_slope: f32,
@@ -27,7 +29,7 @@ pub struct Numbers {
 }
 
 // 0 or the number of the refusal, and the numbers.
-#[derive(Drop)]
+#[derive(Clone, Copy)]
 pub struct Shader {
     pub result: u8,
     pub numbers: Numbers,

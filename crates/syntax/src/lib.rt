@@ -1,1 +1,2 @@
 // Theory only: the syntax of ST2094-10_data, and what reading it means.
+#![tactic(auto)]

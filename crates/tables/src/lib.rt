@@ -1,5 +1,7 @@
 // Tables of points as rows of numbers, for callers that have no Point: for each of the 64 points its picture, its segment and then its
 // record's numbers. They are read and written where they lie; none is copied.
+#![tactic(auto)]
+
 ghost use Rattle.std.specs.Prelude.{◌≡◌, true, ◌+◌, ◌*◌, ◌<◌, ◌≤◌, length};
 ghost use Rattle.std.proofs.Math.Seq.{paste};
 ghost use Rattle.plan.specs.Limit.{most_points};

@@ -1,5 +1,7 @@
 // Lines of key=value text, in ASCII, typed into a lent buffer one behind another. Each function takes the place to begin at and
 // answers the place behind what it typed; bytes behind that stay as they are. It knows nothing of what the text is about.
+#![tactic(auto)]
+
 ghost use Rattle.std.specs.Prelude.{◌≡◌, ◌++◌, ◌+◌, ◌≤◌, length, pos, nat_abs};
 ghost use Rattle.text.specs.Text.{decimal, sign};
 ghost use Rattle.text.specs.Typing.{RoomForText, Typed, entry};

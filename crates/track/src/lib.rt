@@ -1,6 +1,8 @@
 // Tracks: a lent table of 64 points with a count. Placing a record, looking a picture up, joining two tracks.
 // No table goes by value: a scan reads the lent table point by point into a small value, `plan` decides on the numbers,
 // and a fill writes the result point by point.
+#![tactic(auto)]
+
 ghost use Rattle.std.specs.Prelude.{◌≡◌, ◌<◌, length};
 ghost use Rattle.plan.specs.Limit.{most_points};
 ghost use Rattle.track.specs.Track.{point_with, cleared, may_stand, lookup_answer, join_answer, join_table, place_answer, place_table};
@@ -10,7 +12,7 @@ use plan::{Layout, Scanned, Sought};
 use record::Record;
 
 // A picture number, in output order, the number of the segment that the point came from, and the record in force from there on.
-#[derive(Drop)]
+#[derive(Clone, Copy)]
 pub struct Point {
     pub picture: i32,
     pub segment: u16,
@@ -85,7 +87,7 @@ fn fill(res: &mut [Point], first: &[Point], second: &[Point], layout: Layout)
 }
 
 // The answer of a join: 0 and the new count, or a refusal and 0.
-#[derive(Drop)]
+#[derive(Clone, Copy)]
 pub struct Joined {
     pub result: u8,
     pub count: usize,
@@ -121,7 +123,7 @@ pub fn join(
 
 // The answer of a lookup: the point in force, with its number, at which its record has started, and its segment; or nothing, and then a
 // cleared point.
-#[derive(Drop)]
+#[derive(Clone, Copy)]
 pub struct InForce {
     pub result: u8,
     pub found: bool,
@@ -164,7 +166,7 @@ pub fn lookup(table: &[Point], count: usize, picture: i32) -> InForce
 }
 
 // A placing that is decided: the answer, and the point to be written.
-#[derive(Drop)]
+#[derive(Clone, Copy)]
 pub struct Placing {
     pub result: u8,
     pub count: usize,
@@ -232,7 +234,7 @@ fn write(table: &mut [Point], placing: Placing)
 }
 
 // The answer of a placing: 0 and the new count, or a refusal and 0.
-#[derive(Drop)]
+#[derive(Clone, Copy)]
 pub struct Placed {
     pub result: u8,
     pub count: usize,

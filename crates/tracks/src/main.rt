@@ -3,6 +3,8 @@
 // segment. A lookup is printed with the point that it answers.
 // A table is lent as the first entries of an array of 65 points. A record is told by a number: the min_PQ of its one block, which is
 // of level 1 with avg_PQ 4,000, so that above 4,000 it is not valid; three numbers above 4,095 stand for other records.
+#![tactic(auto)]
+
 ghost use Rattle.std.specs.Prelude.{◌≤◌};
 
 use record::{Block, Record};
@@ -144,7 +146,7 @@ fn is_same(p: Point, q: Point) -> bool {
 }
 
 // ---- tables
-#[derive(Drop)]
+#[derive(Clone, Copy)]
 struct Table {
     entries: usize,
     count: usize,
@@ -243,7 +245,7 @@ fn within(n: usize) -> usize
 }
 
 // ---- the three functions, on parts of arrays
-#[derive(Drop)]
+#[derive(Clone, Copy)]
 struct Changed {
     result: u8,
     count: usize,
@@ -356,7 +358,7 @@ fn say_points(points: [Point; ROOM], count: usize) {
 }
 
 // Whether the entries past the count are cleared, and whether each entry is what it was.
-#[derive(Drop)]
+#[derive(Clone, Copy)]
 struct Left {
     cleared: bool,
     same: bool,

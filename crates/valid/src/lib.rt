@@ -1,4 +1,6 @@
 // Whether a record is valid, decided by a walk over its blocks; and a record with one block more.
+#![tactic(auto)]
+
 ghost use Rattle.std.specs.Prelude.{◌≡◌, true, false, not, [], ◌∷◌, ◌+◌, ◌<◌, ◌≤◌, take};
 ghost use Rattle.record.specs.Blocks.{most_blocks, all_blocks};
 ghost use Rattle.valid.specs.Valid.{new_target, may_follow, with_block, valid};

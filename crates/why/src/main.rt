@@ -1,4 +1,6 @@
 // Reads wrapped data from standard input, of a longer input the first 4,096 bytes, and prints why it is refused.
+#![tactic(auto)]
+
 fn main() {
     let mut input = io::buffer();
     let n = io::read_full(libc::STDIN_FILENO, &mut input);

@@ -1,5 +1,7 @@
 // The number that bits of a lent slice are, put together from the bytes that they touch: each is loaded once, and no other. Nothing is
 // looked at bit by bit.
+#![tactic(auto)]
+
 ghost use Rattle.std.specs.Prelude.{◌≡◌, ◌+◌, ◌*◌, ◌≤◌, length, take, drop};
 ghost use Rattle.tree.specs.Bits.{bits_of, bit, value};
 ghost use Rattle.window.specs.Bytes.{bytes_number};

@@ -1,4 +1,6 @@
 // ST2094-10_data in its ITU-T T.35 wrapper.
+#![tactic(auto)]
+
 ghost use Rattle.std.specs.Prelude.{◌≡◌, true, ◌++◌, ◌≤◌, ◌<◌, length, get_or, drop};
 ghost use Rattle.tree.specs.Bits.{bits_of};
 ghost use Rattle.tree.specs.Syntax.{read};
@@ -20,7 +22,7 @@ use record::Record;
 pub const WRAPPER_BYTES: usize = 8;
 
 // Whether the wrapper's bytes are there, or why not.
-#[derive(Drop)]
+#[derive(Clone, Copy)]
 enum Wrapper {
     There,
     Refused {

@@ -1,4 +1,6 @@
 // Writes a record as ST2094-10_data into a lent buffer.
+#![tactic(auto)]
+
 ghost use Rattle.std.specs.Prelude.{◌≡◌, true, false, ◌++◌, ◌+◌, ◌*◌, ◌≤◌, ◌<◌, length, take, replicate};
 ghost use Rattle.tree.specs.Bits.{code};
 ghost use Rattle.tree.specs.Codes.{zeros_of};
