@@ -197,7 +197,7 @@ pub fn write_listing(q: Reading, out: &mut [u8]) -> Written
                 bytes: 0,
             };
         }
-        bytes::copy(&page[..n], out);
+        out[..n].copy_from_slice(&page[..n]);
         Written {
             result: 0,
             bytes: n,

@@ -11,8 +11,9 @@ pub fn put_text(out: &mut [u8], at: usize, s: &[u8]) -> usize
     requires { RoomForText out.old at s.now }
     ensures { Typed out.old at s.now out.new result }
 {
-    let n = bytes::copy(s, &mut out[at..]);
-    at + n
+    let end = at + s.len();
+    out[at..end].copy_from_slice(s);
+    end
 }
 
 // How many digits n has.
