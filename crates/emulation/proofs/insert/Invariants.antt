@@ -1,0 +1,18 @@
+use Prim.Native.Nat.{◌+◌, ◌≤◌, ◌<◌, ◌-◌}
+use mathlib.Core.Bool.{true, false}
+use mathlib.Core.Logic.{⊎_elim}
+use mathlib.Core.List.{◌∷◌}
+use native.Mathlib.Omega.{arith}
+use lib.ListN.{length, get_or, drop, drop_of_length-le}
+use Rattle.emulation.specs.Emulation.{escaped, escaped_behind, zeros_behind}
+use Rattle.emulation.proofs.Loops.{escaped_step, one_more_zero, Filled, none_filled, one_filled, all_filled}
+use Rattle.emulation.proofs.insert.Reads as reads
+use Rattle.emulation.proofs.insert.Lts as lts
+use Rattle.emulation.proofs.zeros_behind.Reads as zeros-behind-reads
+use Rattle.emulation.proofs.insert.Given as goal
+
+abbrev pub invariant-loop-i : goal.invariant-loop-i
+invariant-loop-i l = (l.zeros ≤ l.i) × (l.i ≤ length l.s) × Filled l.initial.out (escaped l.s) l.out l.n (escaped_behind l.zeros (drop l.i l.s))
+
+abbrev pub decreases-loop-i : goal.decreases-loop-i
+decreases-loop-i l = length l.s - l.i

@@ -1,0 +1,14 @@
+use Prim.Native.Nat.{◌≤◌, ◌<◌, ◌-◌}
+use mathlib.Core.Bool.{true, false}
+use mathlib.Core.Logic.{⊎_elim}
+use native.Mathlib.Omega.{arith}
+use lib.ListN.{length, get_or, drop, drop_of_length-le}
+use Rattle.emulation.specs.Emulation.{removed, removed_behind}
+use Rattle.emulation.proofs.Loops.{removed_shorter, removed_step, one_more_zero, Filled, none_filled, one_filled, all_filled}
+use Rattle.emulation.proofs.remove.Given as goal
+
+abbrev pub invariant-loop-i : goal.invariant-loop-i
+invariant-loop-i l = (l.zeros ≤ l.i) × (l.i ≤ length l.s) × Filled l.initial.out (removed l.s) l.out l.n (removed_behind l.zeros (drop l.i l.s))
+
+abbrev pub decreases-loop-i : goal.decreases-loop-i
+decreases-loop-i l = length l.s - l.i

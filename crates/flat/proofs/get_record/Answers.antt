@@ -1,0 +1,6 @@
+-- `flat::get_record` meets its contract.
+use borrow.Author.Rules.{rules}
+use Rattle.flat.proofs.get_record.Goals as goal
+
+pub returns : goal.returns
+returns c = c.get_beside.ensures

@@ -1,0 +1,7 @@
+-- `head::zeros_behind` meets its contract.
+use native.Mathlib.Omega.{arith}
+use borrow.Author.Rules.{rules}
+use Rattle.head.proofs.zeros_behind.Goals as goal
+
+pub returns-then-test : goal.returns-then-test
+returns-then-test c = (rw c.if-test.true, omega arith)

@@ -1,0 +1,6 @@
+-- `listing::is_listable` meets its contract.
+use borrow.Author.Rules.{rules}
+use Rattle.listing.proofs.is_listable.Goals as goal
+
+pub returns : goal.returns
+returns c = rw c.is_valid_lem.ensures

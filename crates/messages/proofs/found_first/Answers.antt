@@ -1,0 +1,6 @@
+-- `messages::found_first` meets its contract.
+use borrow.Author.Rules.{rules}
+use Rattle.messages.proofs.found_first.Goals as goal
+
+pub returns-then-first : goal.returns-then-first
+returns-then-first c = rw c.if-first.true

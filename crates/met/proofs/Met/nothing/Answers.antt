@@ -1,0 +1,8 @@
+-- `met::Met::nothing` meets its contract.
+use mathlib.Core.Path.{refl}
+use Rattle.valid.specs.Valid.{many}
+use Rattle.met.proofs.Met.nothing.Goals as goal
+
+pub returns : goal.returns
+unfolding many
+returns c = refl

@@ -1,0 +1,22 @@
+-- `pimlasut::give_reading` meets its contract.
+use mathlib.Core.Path.{◌≡◌, refl, sym, ◌∙◌}
+use lib.ListN.{length, length-map}
+use Rattle.record.specs.Blocks.{most_blocks}
+use Rattle.flat.specs.Flat.{flat, flat_length}
+use Rattle.flat.proofs.Named.{length-flat}
+use Rattle.pimlasut.proofs.Laws.{kept, pasted_whole}
+use borrow.Author.Rules.{rules}
+use Rattle.pimlasut.proofs.give_reading.Goals as goal
+
+pub returns-then-reading-ne0 : goal.returns-then-reading-ne0
+returns-then-reading-ne0 c =
+    let both = let a = c.args in
+    (refl, (kept a.reading.result (flat a.reading.«record») a.numbers.now c.if-reading-ne0.true, rw c.mark.ensures at c.put_facts.ensures)) in record { result = both.0; record = both.1; facts = both.2 }
+
+pub returns : goal.returns
+returns c =
+    let long : length c.args.reading.«record».places ≡ most_blocks =
+        sym (length-map c.args.reading.«record».places _) ∙ c.well-formed.0.1.1.1.1.1.1.1.1.0.1.1.1.1.0.1.0.1 in
+    let both = let s = c in
+    let r = s.args.reading.«record» in
+    (sym c.if-reading-ne0.false, (c.put_record.ensures ∙ pasted_whole s.args.numbers.now (flat r) flat_length s.requires.0 (length-flat r (long)), rw c.mark.ensures at c.put_facts.ensures)) in record { result = both.0; record = both.1; facts = both.2 }

@@ -1,0 +1,37 @@
+-- `pimlasut::show` meets its contract.
+use mathlib.Core.Path.{refl, sym, ap, ◌∙◌}
+use lib.Seq.{paste}
+use Rattle.tree.specs.Bits.{bit}
+use Rattle.track.specs.declared.Point.{Point}
+use Rattle.tables.specs.Table.{flat_point, point_length, found_in}
+use Rattle.tables.proofs.Laws.{length_found}
+use Rattle.pimlasut.proofs.Laws.{kept, pasted_whole}
+use borrow.Author.Rules.{rules}
+use Rattle.pimlasut.proofs.show.Goals as goal
+
+pub returns-then-sought-ne0 : goal.returns-then-sought-ne0
+returns-then-sought-ne0 c =
+    let both = let a = c.args in
+    let no = c.if-sought-ne0.true in (
+      refl,
+      (
+        kept a.sought.result (flat_point (found_in a.table.now a.sought)) a.numbers.now no,
+        kept a.sought.result (bit a.sought.found) a.found.now no,
+      ),
+    ) in record { result = both.0; point = both.1; found = both.2 }
+
+pub found_point-point-requires : goal.found_point-point-requires
+found_point-point-requires c = let s = c in (s.requires.0, s.requires.2)
+
+pub returns : goal.returns
+returns c =
+    let both = let s = c in
+    let a = s.args in
+    let q = found_in a.table.now a.sought in (
+      sym c.if-sought-ne0.false,
+      (
+        c.put_point.ensures ∙ ap (λ (p : Point). paste a.numbers.now 0 (flat_point p) point_length) c.found_point-point.ensures
+            ∙ pasted_whole a.numbers.now (flat_point q) point_length s.requires.1 (length_found a.table.now a.sought),
+        c.mark.ensures,
+      ),
+    ) in record { result = both.0; point = both.1; found = both.2 }

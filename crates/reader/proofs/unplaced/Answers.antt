@@ -1,0 +1,7 @@
+-- `reader::unplaced` meets its contract.
+use mathlib.Core.Path.{refl, ◌∙◌}
+use borrow.Author.Rules.{rules}
+use Rattle.reader.proofs.unplaced.Goals as goal
+
+pub returns : goal.returns
+returns c = c.with_cause.ensures ∙ rw c.nothing.ensures refl

@@ -1,0 +1,47 @@
+-- `reason::write_reason` meets its contract: the text is made on the page, then the room is looked at, and only then a byte of the buffer is written.
+use Prim.Native.Nat.{◌≤◌}
+use mathlib.Core.Path.{◌≡◌, refl, sym, ◌∙◌}
+use mathlib.Core.Bool.{true}
+use native.Mathlib.Omega.{arith}
+use borrow.Author.Rules.{rules}
+use lib.ListN.{length}
+use lib.Seq.{take-length}
+use Rattle.output.proofs.Output.{done, short}
+use Rattle.text.proofs.Typing.{typed_whole}
+use Rattle.reason.specs.Reason.{reason_text, longest}
+use Rattle.reason.proofs.Longest.{no_reason_is_longer, longest_bytes}
+use Rattle.reason.proofs.write_reason.Goals as goal
+
+pub put_reason-n-requires : goal.put_reason-n-requires
+put_reason-n-requires c = omega (arith, roomy, longest_bytes)
+
+pub returns-then-out-n : goal.returns-then-out-n
+returns-then-out-n c =
+    let both = let s = c in
+    let put = typed_whole c.put_reason-n.ensures in
+    short (reason_text s.args.q) true s.args.out.now refl (omega (arith, put.1)) in record { result = both.0; buffer = both.1 }
+
+pub slice_bounds-page-end : goal.slice_bounds-page-end
+slice_bounds-page-end c =
+    let put = c.put_reason-n in
+    let page : length put.new.out ≡ length longest = put.ensures.same ∙ sym longest_bytes in
+    omega (arith, (typed_whole put.ensures).1, page, roomy)
+
+pub LOST-slice_aggregate_copy : goal.LOST-slice_aggregate_copy
+LOST-slice_aggregate_copy c =
+    let put = typed_whole c.put_reason-n.ensures in
+    rw put.0 put.1
+
+pub LOST-copy_requires : goal.LOST-copy_requires
+LOST-copy_requires c =
+    let put = typed_whole c.put_reason-n.ensures in
+    rw put.0 (omega (arith, put.1))
+
+pub returns : goal.returns
+returns c =
+    let both = let s = c in
+    let t = reason_text s.args.q in
+    let put = typed_whole c.put_reason-n.ensures in
+    let copied = rw (put.0, take-length t) at c.copy.ensures.1 in
+    let d = done t true s.args.out.now refl (omega (arith, put.1)) in
+    (rw put.1 d.0, copied ∙ d.1) in record { result = both.0; buffer = both.1 }

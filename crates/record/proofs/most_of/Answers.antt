@@ -1,0 +1,15 @@
+-- `record::most_of` meets its contract.
+use Rattle.record.proofs.Laws.{no_level}
+use Rattle.record.proofs.most_of.Goals as goal
+
+pub returns-then-l-eq1 : goal.returns-then-l-eq1
+returns-then-l-eq1 c = rw c.if-l-eq1.true
+
+pub returns-then-l-eq2 : goal.returns-then-l-eq2
+returns-then-l-eq2 c = rw c.if-l-eq2.true
+
+pub returns-then-l-eq5 : goal.returns-then-l-eq5
+returns-then-l-eq5 c = rw c.if-l-eq5.true
+
+pub returns : goal.returns
+returns c = rw (no_level c.args.l c.if-l-eq1.false c.if-l-eq2.false c.if-l-eq5.false)

@@ -1,0 +1,18 @@
+use Prim.Native.Nat.{◌≤◌, ◌-◌}
+use mathlib.Core.Path.{◌≡◌, refl, sym, ◌∙◌}
+use native.Mathlib.Omega.{arith}
+use borrow.Author.Rules.{rules}
+use Rattle.tree.specs.Bits.{bits_of}
+use Rattle.tree.specs.Syntax.{read}
+use Rattle.tree.specs.Wrapper.{wrapper_table}
+use Rattle.record.specs.Name.{«wrapper»}
+use Rattle.syntax.specs.Wrapper.{wrapper_bytes}
+use Rattle.wrapper.specs.Wrapper.{wrapper_of}
+use Rattle.wrapper.proofs.Laws.{from_byte, missing, differs, agrees}
+use Rattle.wrapper.proofs.check_wrapper.Given as goal
+
+abbrev pub invariant-loop-i : goal.invariant-loop-i
+invariant-loop-i l = (l.i ≤ 8) × (wrapper_of (from_byte l.input l.i) ≡ wrapper_of (read (wrapper_table «wrapper» wrapper_bytes) 0 (bits_of l.input)))
+
+abbrev pub decreases-loop-i : goal.decreases-loop-i
+decreases-loop-i l = 8 - l.i

@@ -1,0 +1,6 @@
+-- `wrapper::refused` meets its contract.
+use borrow.Author.Rules.{rules}
+use Rattle.wrapper.proofs.refused.Goals as goal
+
+pub returns : goal.returns
+returns c = rw c.empty-record.ensures
