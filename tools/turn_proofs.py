@@ -315,8 +315,7 @@ def convert(fn, text):
             if not e:
                 fn.notes.append(f"answer {name} not turned")
                 continue
-            if [a for a in e.group(1).split() if a not in ("κs",)]:
-                fn.notes.append(f"answer {name} takes {e.group(1)}")
+            more = "".join(" " + a for a in e.group(1).split() if a != "κs")
             used = []
             body = fn.turn(e.group(2), helpers=helpers, answers=answers, used=used)
             pre, unf = wrap(used, body)
@@ -336,7 +335,7 @@ def convert(fn, text):
                     d["comment"]
                     + [f"pub {new} : goal.{new}"]
                     + (["unfolding " + " ".join(unfolding)] if unfolding else [])
-                    + [f"{new} c =" + ("\n" + pre.rstrip("\n") + "\n    " + body.strip() if pre else (" " + body.strip() if "\n" not in body.strip() else "\n    " + body.strip()))]
+                    + [f"{new} c{more} =" + ("\n" + pre.rstrip("\n") + "\n    " + body.strip() if pre else (" " + body.strip() if "\n" not in body.strip() else "\n    " + body.strip()))]
                 )
             )
             continue

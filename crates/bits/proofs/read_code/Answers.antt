@@ -15,6 +15,7 @@ use Rattle.bits.specs.Answer.{number_of, zeros_that_fit}
 use Rattle.bits.proofs.Reading.{byte_more, ue_cut, ue_is}
 use borrow.Author.Rules.{rules}
 use Rattle.bits.proofs.read_code.Goals as goal
+use Rattle.bits.proofs.read_code.Goals.{then-have-width+else-s-next, else-have-width}
 
 -- behind k zeros and a one, n bits are a number below 2 ^ (n - k)
 few_digits : (l : List Bool) (k n : ℕ) → k < n → n ≤ length l → value (take (k + 1) l) ≡ 1 → value (take n l) < 2 ^ (n - k)
@@ -34,7 +35,7 @@ whole_code l k h e =
     (omega (arith, rw (m, e) at w, pow_pos k), rw d at (few_digits l k (2 * k + 1) (omega arith) h e))
 
 pub returns-then-s-next : goal.returns-then-s-next
-returns-then-s-next c =
+returns-then-s-next c most some =
     let s = c in
     let a = s.args in
     let r = length_rest a.s.now a.at in
@@ -43,7 +44,7 @@ returns-then-s-next c =
 pub loop-n-init : goal.loop-n-init
 loop-n-init c =
     let whole-there : c.args.at + (2 * c.args.zeros + 1) ≤ 8 * length c.args.s.now =
-    ⊎_elim (λ t. omega (arith, t, c.requires)) (λ e. omega (arith, e, c.requires)) c.if-have-width.branch in
+    elim c.if-have-width.branch [ then-have-width+else-s-next w ↦ omega (arith, w.if-s-next.false) | else-have-width w ↦ omega arith ] in
     let p = c.requires in (p.0, p.1, p.2, whole-there, p.3, omega (arith, p.4))
 
 pub overflow_mul-v : goal.overflow_mul-v
@@ -110,7 +111,7 @@ overflow_cast-result c =
     let w = whole in rw w.0 (omega (arith, w.2))
 
 pub returns : goal.returns
-returns c =
+returns c most some =
     let whole : (c.loop-n.v / 2 ^ (c.loop-n.n - (2 * c.args.zeros + 1)) ≡ value (take (2 * c.args.zeros + 1) (drop c.args.at (bits_of c.args.s.now))))
     × (1 ≤ value (take (2 * c.args.zeros + 1) (drop c.args.at (bits_of c.args.s.now))))
     × (value (take (2 * c.args.zeros + 1) (drop c.args.at (bits_of c.args.s.now))) < 4294967296) =
