@@ -58,7 +58,8 @@ class Function:
             return []
         s = norm(comps[0])
         rest = comps[1:]
-        if comps[0] in ("args", "requires", "ranges", "lifetimes", "well_formed", "utf8"):
+        if norm(comps[0]) in ("args", "requires", "ranges", "lifetimes", "well_formed", "utf8"):
+            comps = [s] + comps[1:]
             if rest:
                 key = f".{comps[0]} .{rest[0]}"
                 if key in self.args:
@@ -213,7 +214,7 @@ def convert(fn, text):
         sig, _ = split_equation(d)
         if re.search(r":\s*\n?\s*tie\.Need-", sig):
             answers[d["name"]] = d
-        elif "tie." in sig and not re.search(r":\s*tie\.(invariant|decreases)-", sig) and d["name"] != "module":
+        elif ("tie." in sig or "lts." in sig) and not re.search(r":\s*tie\.(invariant|decreases)-", sig) and d["name"] != "module":
             helpers[d["name"]] = d
     lets = {}
 
@@ -222,19 +223,19 @@ def convert(fn, text):
         if name in lets:
             return lets[name]
         sig, eq = split_equation(d)
-        m = re.match(rf"(?:abbrev |pub )*{re.escape(name)}\s*:\s*\(c : tie\.[^()]*\)\s*(.*)$", sig, re.S)
+        m = re.match(rf"(?:abbrev |pub )*{re.escape(name)}\s*:\s*\(({ID}) : (?:tie|lts)\.(?:[^()]|\([^()]*\))*\)\s*(.*)$", sig, re.S)
         lines = eq.split("\n")
-        e = re.match(rf"{re.escape(name)}\s+c((?:\s+(?!=\s){ID})*)\s+=\s+(.*)$", eq, re.S)
+        e = re.match(rf"{re.escape(name)}\s+({ID})((?:\s+(?!=\s){ID})*)\s+=\s+(.*)$", eq, re.S)
         if not m or not e or sum(1 for l in lines if l.startswith(name)) != 1:
             fn.notes.append(f"helper {name} not turned")
             lets[name] = None
             return None
         used = []
-        rest = m.group(1).strip()
+        rest = as_c(m.group(2).strip(), m.group(1))
         typ = rest[1:].strip() if rest.startswith("→") else rest
         typ = fn.turn(typ, helpers=helpers, used=used)
-        body = fn.turn(e.group(2), helpers=helpers, answers=answers, used=used)
-        args = e.group(1).split()
+        body = fn.turn(as_c(e.group(3), e.group(1)), helpers=helpers, answers=answers, used=used)
+        args = e.group(2).split()
         if args:
             body = "λ " + " ".join(args) + ". " + body
         lets[name] = (typ, body, used, d["unfolding"])
@@ -306,8 +307,8 @@ def convert(fn, text):
             if new is None:
                 short = re.sub(r"^(overflow|nonzero)_", "", need)
                 new = fn.needs.get(short)
-            e = re.match(rf"{re.escape(name)}\s+c((?:\s+(?!=\s){ID})*)\s+=\s+(.*)$", eq, re.S)
-            if e and trivial(e.group(2)):
+            e = re.match(rf"{re.escape(name)}\s+({ID})((?:\s+(?!=\s){ID})*)\s+=\s+(.*)$", eq, re.S)
+            if e and trivial(e.group(3)):
                 continue
             if new is None:
                 fn.notes.append(f"goal {need} has no name today")
@@ -315,9 +316,9 @@ def convert(fn, text):
             if not e:
                 fn.notes.append(f"answer {name} not turned")
                 continue
-            more = "".join(" " + a for a in e.group(1).split() if a != "κs")
+            more = "".join(" " + a for a in e.group(2).split() if a != "κs")
             used = []
-            body = fn.turn(e.group(2), helpers=helpers, answers=answers, used=used)
+            body = fn.turn(inlined(as_c(e.group(3), e.group(1)), answers), helpers=helpers, answers=answers, used=used)
             pre, unf = wrap(used, body)
             unfolding = []
             for u in ([d["unfolding"]] if d["unfolding"] else []) + unf:
@@ -355,6 +356,33 @@ def convert(fn, text):
         title = [h for h in head if h.strip()]
         files["Answers.antt"] = "\n".join(title + keep + [goal + ".Goals as goal", ""]) + "\n" + "\n\n".join(ans) + "\n"
     return files
+
+
+def as_c(text, var):
+    """The text with c in place of the variable."""
+    if var == "c":
+        return text
+
+    def rep(m):
+        if m.group(1) == var:
+            return "c" + (m.group(2) or "")
+        if m.group(1) == "c":
+            return "c0" + (m.group(2) or "")
+        return m.group()
+
+    return PATH.sub(rep, text)
+
+
+def inlined(text, answers):
+    """The text with the bodies of the answers that it cites in their place, where each is one line."""
+    for name, d in answers.items():
+        m = re.search(rf"(?<![^\s(){{}}\[\];,]){re.escape(name)} (c(?:\.before)*)(?![^\s(){{}}\[\];,])", text)
+        if m:
+            _, eq = split_equation(d)
+            e = re.match(rf"{re.escape(name)}\s+({ID})((?:\s+(?!=\s){ID})*)\s+=\s+(.*)$", eq, re.S)
+            if e and not [a for a in e.group(2).split() if a != "κs"]:
+                text = text[: m.start()] + "(" + as_c(e.group(3), e.group(1)) + ")" + text[m.end() :]
+    return text
 
 
 def top_tuple(b):

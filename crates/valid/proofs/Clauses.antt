@@ -2,7 +2,7 @@
 use Prim.Native.Nat.{ℕ, zero, suc, ◌+◌, ◌<◌, ◌≤◌}
 use mathlib.Core.Path.{◌≡◌, refl, ap, sym, ◌∙◌}
 use mathlib.Core.List.{List, [], ◌∷◌, ◌++◌, map, append-nil}
-use mathlib.Core.Bool.{Bool, true, false, not, ◌&&◌, ◌||◌, and-true, and_false}
+use mathlib.Core.Bool.{Bool, true, false, not, ◌&&◌, ◌||◌, and-true, and-false}
 use native.Mathlib.Omega.{arith}
 use native.Mathlib.Nat.{add-zero}
 use native.Mathlib.Numerals.{add-one}
@@ -100,11 +100,11 @@ valid_is_walk r = rw (walk_is_clauses (blocks r)) (same_test _ _ (λ h. search t
 
 -- so a walk that fails decides, a block behind the count does, and where both pass the flag decides
 pub walk_fails : (r : Record) → false ≡ well_formed [] (blocks r) → false ≡ valid r
-walk_fails r w = rw (valid_is_walk r, ← w, and_false (r.refresh || eqb r.count 0), and_false (leb r.count most_blocks))
+walk_fails r w = rw (valid_is_walk r, ← w, and-false (r.refresh || eqb r.count 0), and-false (leb r.count most_blocks))
 
 pub rest_fails : (r : Record) → false ≡ every is_nothing (beyond r) → false ≡ valid r
 rest_fails r e =
-    rw (valid_is_walk r, ← e, and_false ((r.refresh || eqb r.count 0) && well_formed [] (blocks r)), and_false (leb r.count most_blocks))
+    rw (valid_is_walk r, ← e, and-false ((r.refresh || eqb r.count 0) && well_formed [] (blocks r)), and-false (leb r.count most_blocks))
 
 pub flag_decides : (r : Record) → r.count ≤ most_blocks → true ≡ well_formed [] (blocks r) → true ≡ every is_nothing (beyond r) → r.refresh || eqb r.count 0 ≡ valid r
 flag_decides r h w e = rw (valid_is_walk r, le-leb r.count most_blocks h, ← w, ← e, and-true ((r.refresh || eqb r.count 0) && true), and-true (r.refresh || eqb r.count 0))

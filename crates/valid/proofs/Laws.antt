@@ -2,7 +2,7 @@
 use Prim.Native.Nat.{ℕ, ◌+◌, ◌<◌, ◌≤◌}
 use mathlib.Core.Path.{◌≡◌, refl, ap, sym}
 use mathlib.Core.List.{List, [], ◌∷◌, ◌++◌, append-nil}
-use mathlib.Core.Bool.{Bool, true, false, not, ◌&&◌, ◌||◌, and-true, and_false, and_assoc, or_assoc, and-eq-true_iff}
+use mathlib.Core.Bool.{Bool, true, false, not, ◌&&◌, ◌||◌, and-true, and-false, and_assoc, or_assoc, and-eq-true_iff}
 use native.Mathlib.Omega.{arith}
 use native.Mathlib.Numerals.{add-one}
 use borrow.Author.Tests.{ne_eqb, eq-eqb, eqb-true}
@@ -75,7 +75,7 @@ many_more l (x ∷ bs) b = omega (arith, many_more l bs b)
 -- the tests of `all_differ_more`, in its order
 shuffle : (p q d r : Bool) → not (p || (q || false)) && (d && not r) ≡ not p && d && not (q || r)
 shuffle true q d r = refl
-shuffle false true d r = sym (and_false d)
+shuffle false true d r = sym (and-false d)
 shuffle false false d r = refl
 
 all_differ_more : (xs : List ℕ) (x : ℕ) → all_differ (xs ++ (x ∷ [])) ≡ all_differ xs && not (among x xs)

@@ -6,7 +6,7 @@ use borrow.Author.Rules.{rules}
 use Rattle.block.proofs.skip.Goals as goal
 
 pub returns-then-s-at : goal.returns-then-s-at
-returns-then-s-at c = let a = c.args in c.refuse.ensures ∙ cut_short l a.size a.at a.s.now (omega arith) (omega arith)
+returns-then-s-at c l = let a = c.args in c.refuse.ensures ∙ cut_short l a.size a.at a.s.now (omega arith) (omega arith)
 
 pub returns : goal.returns
-returns c = let a = c.args in passed_over l a.size a.at a.s.now (omega arith)
+returns c l = let a = c.args in passed_over l a.size a.at a.s.now (omega arith)

@@ -22,16 +22,22 @@ use Rattle.cause.proofs.cause_at.Goals as goal
 
 pub returns-then-number-le-TOO_MANY_ZEROS : goal.returns-then-number-le-TOO_MANY_ZEROS
 returns-then-number-le-TOO_MANY_ZEROS c =
+    let shown : Shown c.args.number (drop c.args.at (bits_of c.args.s.now)) c.args.element (cause_in (bare_data (bits_of c.args.s.now))) =
+        let a = c.args in told_is_shown (bits_of a.s.now) a.number a.element a.at c.requires.1 in
     let s = c in
     c.untold.ensures ∙ sym (not_told s.args.number (drop s.args.at (bits_of s.args.s.now)) s.args.element (cause_in (bare_data (bits_of s.args.s.now))) (shown) c.if-number-le-TOO_MANY_ZEROS.true)
 
 pub returns-then-number-eq-NOT_ZERO : goal.returns-then-number-eq-NOT_ZERO
 returns-then-number-eq-NOT_ZERO c =
+    let shown : Shown c.args.number (drop c.args.at (bits_of c.args.s.now)) c.args.element (cause_in (bare_data (bits_of c.args.s.now))) =
+        let a = c.args in told_is_shown (bits_of a.s.now) a.number a.element a.at c.requires.1 in
     let s = c in
     c.range.ensures ∙ sym (not_zero_lem s.args.number (drop s.args.at (bits_of s.args.s.now)) s.args.element (cause_in (bare_data (bits_of s.args.s.now))) (shown) c.if-number-eq-NOT_ZERO.true)
 
 pub overflow_sub-s : goal.overflow_sub-s
 overflow_sub-s c =
+    let shown : Shown c.args.number (drop c.args.at (bits_of c.args.s.now)) c.args.element (cause_in (bare_data (bits_of c.args.s.now))) =
+        let a = c.args in told_is_shown (bits_of a.s.now) a.number a.element a.at c.requires.1 in
     let over : (8 ≤ length (drop c.args.at (bits_of c.args.s.now))) × (cause_in (bare_data (bits_of c.args.s.now)) ≡ range c.args.element (length (drop c.args.at (bits_of c.args.s.now)) / 8) 0 0) =
         let s = c in
     bytes_remain_lem s.args.number (drop s.args.at (bits_of s.args.s.now)) s.args.element (cause_in (bare_data (bits_of s.args.s.now))) (shown) c.if-number-eq-BYTES_REMAIN.true in
@@ -39,6 +45,8 @@ overflow_sub-s c =
 
 pub returns-then-number-eq-BYTES_REMAIN : goal.returns-then-number-eq-BYTES_REMAIN
 returns-then-number-eq-BYTES_REMAIN c =
+    let shown : Shown c.args.number (drop c.args.at (bits_of c.args.s.now)) c.args.element (cause_in (bare_data (bits_of c.args.s.now))) =
+        let a = c.args in told_is_shown (bits_of a.s.now) a.number a.element a.at c.requires.1 in
     let over : (8 ≤ length (drop c.args.at (bits_of c.args.s.now))) × (cause_in (bare_data (bits_of c.args.s.now)) ≡ range c.args.element (length (drop c.args.at (bits_of c.args.s.now)) / 8) 0 0) =
         let s = c in
     bytes_remain_lem s.args.number (drop s.args.at (bits_of s.args.s.now)) s.args.element (cause_in (bare_data (bits_of s.args.s.now))) (shown) c.if-number-eq-BYTES_REMAIN.true in
@@ -47,6 +55,8 @@ returns-then-number-eq-BYTES_REMAIN c =
 
 pub overflow_add-at-in-Is : goal.overflow_add-at-in-Is
 overflow_add-at-in-Is c =
+    let shown : Shown c.args.number (drop c.args.at (bits_of c.args.s.now)) c.args.element (cause_in (bare_data (bits_of c.args.s.now))) =
+        let a = c.args in told_is_shown (bits_of a.s.now) a.number a.element a.at c.requires.1 in
     let again : (v : ℕ) × (length (ue_code v) ≤ 63) × (c.read_ue.result ≡ Is v (length (ue_code v)))
     × ShownCode c.args.number v (drop (c.args.at + length (ue_code v)) (bits_of c.args.s.now)) c.args.element (cause_in (bare_data (bits_of c.args.s.now))) =
         let s = c in
@@ -65,6 +75,8 @@ overflow_add-at-in-Is c =
 
 pub of_code-requires : goal.of_code-requires
 of_code-requires c =
+    let shown : Shown c.args.number (drop c.args.at (bits_of c.args.s.now)) c.args.element (cause_in (bare_data (bits_of c.args.s.now))) =
+        let a = c.args in told_is_shown (bits_of a.s.now) a.number a.element a.at c.requires.1 in
     let again : (v : ℕ) × (length (ue_code v) ≤ 63) × (c.read_ue.result ≡ Is v (length (ue_code v)))
     × ShownCode c.args.number v (drop (c.args.at + length (ue_code v)) (bits_of c.args.s.now)) c.args.element (cause_in (bare_data (bits_of c.args.s.now))) =
         let s = c in
@@ -83,6 +95,8 @@ of_code-requires c =
 
 pub returns-in-Refused : goal.returns-in-Refused
 returns-in-Refused c =
+    let shown : Shown c.args.number (drop c.args.at (bits_of c.args.s.now)) c.args.element (cause_in (bare_data (bits_of c.args.s.now))) =
+        let a = c.args in told_is_shown (bits_of a.s.now) a.number a.element a.at c.requires.1 in
     let again : (v : ℕ) × (length (ue_code v) ≤ 63) × (c.read_ue.result ≡ Is v (length (ue_code v)))
     × ShownCode c.args.number v (drop (c.args.at + length (ue_code v)) (bits_of c.args.s.now)) c.args.element (cause_in (bare_data (bits_of c.args.s.now))) =
         let s = c in

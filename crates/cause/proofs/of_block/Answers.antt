@@ -32,6 +32,8 @@ returns-then-number-eq-WRONG_LENGTH c =
 
 pub field-min-requires : goal.field-min-requires
 field-min-requires c =
+    let ordered : c.args.number ≡ not_in_order → 44 ≤ length (drop c.args.at (bits_of c.args.s.now)) =
+    λ q. let a = c.args in (not_in_order_lem a.number a.size (drop a.at (bits_of a.s.now)) a.element (cause_in (bare_data (bits_of a.s.now))) c.requires.1 q).0 in
     let s = c in
     (omega (arith, ordered, length_rest s.args.s.now s.args.at), omega arith)
 
@@ -42,6 +44,8 @@ overflow_cast-min c =
 
 pub field-max-requires : goal.field-max-requires
 field-max-requires c =
+    let ordered : c.args.number ≡ not_in_order → 44 ≤ length (drop c.args.at (bits_of c.args.s.now)) =
+    λ q. let a = c.args in (not_in_order_lem a.number a.size (drop a.at (bits_of a.s.now)) a.element (cause_in (bare_data (bits_of a.s.now))) c.requires.1 q).0 in
     let s = c in
     (omega (arith, ordered, length_rest s.args.s.now s.args.at), omega arith)
 
@@ -52,6 +56,8 @@ overflow_cast-max c =
 
 pub field-avg-requires : goal.field-avg-requires
 field-avg-requires c =
+    let ordered : c.args.number ≡ not_in_order → 44 ≤ length (drop c.args.at (bits_of c.args.s.now)) =
+    λ q. let a = c.args in (not_in_order_lem a.number a.size (drop a.at (bits_of a.s.now)) a.element (cause_in (bare_data (bits_of a.s.now))) c.requires.1 q).0 in
     let s = c in
     (omega (arith, ordered, length_rest s.args.s.now s.args.at), omega arith)
 

@@ -15,31 +15,49 @@ use Rattle.emulation.proofs.escaped_length.Goals as goal
 pub loop-i-init : goal.loop-i-init
 loop-i-init c = (omega arith, omega arith, omega arith, omega arith)
 
--- behind the emulation byte, or where none is needed, the byte itself comes
-joined : (c : lts.Joined1 (zeros-behind-reads.Asked, zeros-behind-reads.Learnt) reads.Pre reads.Post invariant-loop decreases-loop) →
-    let i = c.before.before.before.loop.i in
-    let s = c.before.before.before.before.before.args.s.now in
-    (c.if1.zeros ≤ i) × (c.if1.n ≤ 2 * i + 1) × (c.if1.n + 1 + length (escaped_behind (zeros_behind c.if1.zeros (get_or s i 0)) (drop (i + 1) s)) ≡ length (escaped s))
-joined c =
-    let l = c.before.before.before.loop in
-    let s = c.before.before.before.before.before.args.s.now in
+pub overflow_add-n-in-loop-i : goal.overflow_add-n-in-loop-i
+overflow_add-n-in-loop-i c =
+    let joined : let i = c.loop-i.i in
+    let s = c.args.s.now in
+    (c.if-zeros-b.zeros ≤ i) × (c.if-zeros-b.n ≤ 2 * i + 1) × (c.if-zeros-b.n + 1 + length (escaped_behind (zeros_behind c.if-zeros-b.zeros (get_or s i 0)) (drop (i + 1) s)) ≡ length (escaped s)) =
+    let l = c.loop-i in
+    let s = c.args.s.now in
     let h : l.i < length s = omega arith in
     ⊎_elim
     (λ w. (omega arith, omega arith, rw (w.1, w.2) (let f = rw (escaped_step s l.i h l.zeros true w.0.taken) at l.invariant.3 in omega arith)))
     (λ w. (omega arith, omega arith, rw (w.1, w.2) (let f = rw (escaped_step s l.i h l.zeros false w.0.left) at l.invariant.3 in omega arith)))
-    c.if1.branch
-
-pub overflow_add-n-in-loop-i : goal.overflow_add-n-in-loop-i
-overflow_add-n-in-loop-i c = let j = joined c in omega arith
+    c.if-zeros-b.branch in
+    let j = joined in omega arith
 
 pub zeros_behind-zeros-requires : goal.zeros_behind-zeros-requires
-zeros_behind-zeros-requires c = let j = joined c in omega arith
+zeros_behind-zeros-requires c =
+    let joined : let i = c.loop-i.i in
+    let s = c.args.s.now in
+    (c.if-zeros-b.zeros ≤ i) × (c.if-zeros-b.n ≤ 2 * i + 1) × (c.if-zeros-b.n + 1 + length (escaped_behind (zeros_behind c.if-zeros-b.zeros (get_or s i 0)) (drop (i + 1) s)) ≡ length (escaped s)) =
+    let l = c.loop-i in
+    let s = c.args.s.now in
+    let h : l.i < length s = omega arith in
+    ⊎_elim
+    (λ w. (omega arith, omega arith, rw (w.1, w.2) (let f = rw (escaped_step s l.i h l.zeros true w.0.taken) at l.invariant.3 in omega arith)))
+    (λ w. (omega arith, omega arith, rw (w.1, w.2) (let f = rw (escaped_step s l.i h l.zeros false w.0.left) at l.invariant.3 in omega arith)))
+    c.if-zeros-b.branch in
+    let j = joined in omega arith
 
 pub loop-i-preserved : goal.loop-i-preserved
 loop-i-preserved c =
+    let joined : let i = c.loop-i.i in
+    let s = c.args.s.now in
+    (c.if-zeros-b.zeros ≤ i) × (c.if-zeros-b.n ≤ 2 * i + 1) × (c.if-zeros-b.n + 1 + length (escaped_behind (zeros_behind c.if-zeros-b.zeros (get_or s i 0)) (drop (i + 1) s)) ≡ length (escaped s)) =
+    let l = c.loop-i in
+    let s = c.args.s.now in
+    let h : l.i < length s = omega arith in
+    ⊎_elim
+    (λ w. (omega arith, omega arith, rw (w.1, w.2) (let f = rw (escaped_step s l.i h l.zeros true w.0.taken) at l.invariant.3 in omega arith)))
+    (λ w. (omega arith, omega arith, rw (w.1, w.2) (let f = rw (escaped_step s l.i h l.zeros false w.0.left) at l.invariant.3 in omega arith)))
+    c.if-zeros-b.branch in
     let i = c.loop-i.i in
     let s = c.args.s.now in
-    let j = joined c in
+    let j = joined in
     (omega (arith, one_more_zero c.if-zeros-b.zeros (get_or s i 0)), omega arith, omega arith, rw c.zeros_behind-zeros.ensures j.2)
 
 pub returns : goal.returns

@@ -22,37 +22,75 @@ bounds-out-n c =
     let f = rw (escaped_step s l.i (omega arith) l.zeros true c.if-zeros-b.true) at l.invariant.2 in omega arith
 
 pub overflow_add-n : goal.overflow_add-n
-overflow_add-n c = omega (arith, slice-write-out c)
+overflow_add-n c =
+    omega (
+      arith,
+      (let l = c.loop-i in
+          let s = c.args.s.now in
+          let f = rw (escaped_step s l.i (omega arith) l.zeros true c.if-zeros-b.true) at l.invariant.2 in omega arith),
+    )
 
--- behind the emulation byte, or where none is needed, the byte itself comes
-joined : (c : lts.Joined1 (zeros-behind-reads.Asked, zeros-behind-reads.Learnt) reads.Pre reads.Post invariant-loop decreases-loop) →
-    let i = c.before.before.before.loop.i in
-    let a = c.before.before.before.before.before.before.args in
+pub bounds-out-n-in-loop-i : goal.bounds-out-n-in-loop-i
+bounds-out-n-in-loop-i c =
+    let joined : let i = c.loop-i.i in
+    let a = c.args in
     let b = get_or a.s.now i 0 in
-    (c.if1.zeros ≤ i) × Filled a.out.now (escaped a.s.now) c.if1.out c.if1.n (b ∷ escaped_behind (zeros_behind c.if1.zeros b) (drop (i + 1) a.s.now))
-joined c =
-    let l = c.before.before.before.loop in
-    let s = c.before.before.before.before.before.before.args.s.now in
+    (c.if-zeros-b.zeros ≤ i) × Filled a.out.now (escaped a.s.now) c.if-zeros-b.out c.if-zeros-b.n (b ∷ escaped_behind (zeros_behind c.if-zeros-b.zeros b) (drop (i + 1) a.s.now)) =
+    let l = c.loop-i in
+    let s = c.args.s.now in
     let h : l.i < length s = omega arith in
     ⊎_elim
     (λ w. (omega arith, rw (w.1, w.2, w.3) (one_filled (rw (escaped_step s l.i h l.zeros true w.0.taken) at l.invariant.2))))
     (λ w. (omega arith, rw (w.1, w.2, w.3) (rw (escaped_step s l.i h l.zeros false w.0.left) at l.invariant.2)))
-    c.if1.branch
-
-pub bounds-out-n-in-loop-i : goal.bounds-out-n-in-loop-i
-bounds-out-n-in-loop-i c = let j = joined c in omega arith
+    c.if-zeros-b.branch in
+    let j = joined in omega arith
 
 pub overflow_add-n-in-loop-i : goal.overflow_add-n-in-loop-i
-overflow_add-n-in-loop-i c = let j = joined c in omega arith
+overflow_add-n-in-loop-i c =
+    let joined : let i = c.loop-i.i in
+    let a = c.args in
+    let b = get_or a.s.now i 0 in
+    (c.if-zeros-b.zeros ≤ i) × Filled a.out.now (escaped a.s.now) c.if-zeros-b.out c.if-zeros-b.n (b ∷ escaped_behind (zeros_behind c.if-zeros-b.zeros b) (drop (i + 1) a.s.now)) =
+    let l = c.loop-i in
+    let s = c.args.s.now in
+    let h : l.i < length s = omega arith in
+    ⊎_elim
+    (λ w. (omega arith, rw (w.1, w.2, w.3) (one_filled (rw (escaped_step s l.i h l.zeros true w.0.taken) at l.invariant.2))))
+    (λ w. (omega arith, rw (w.1, w.2, w.3) (rw (escaped_step s l.i h l.zeros false w.0.left) at l.invariant.2)))
+    c.if-zeros-b.branch in
+    let j = joined in omega arith
 
 pub zeros_behind-zeros-requires : goal.zeros_behind-zeros-requires
-zeros_behind-zeros-requires c = let j = joined c in omega arith
+zeros_behind-zeros-requires c =
+    let joined : let i = c.loop-i.i in
+    let a = c.args in
+    let b = get_or a.s.now i 0 in
+    (c.if-zeros-b.zeros ≤ i) × Filled a.out.now (escaped a.s.now) c.if-zeros-b.out c.if-zeros-b.n (b ∷ escaped_behind (zeros_behind c.if-zeros-b.zeros b) (drop (i + 1) a.s.now)) =
+    let l = c.loop-i in
+    let s = c.args.s.now in
+    let h : l.i < length s = omega arith in
+    ⊎_elim
+    (λ w. (omega arith, rw (w.1, w.2, w.3) (one_filled (rw (escaped_step s l.i h l.zeros true w.0.taken) at l.invariant.2))))
+    (λ w. (omega arith, rw (w.1, w.2, w.3) (rw (escaped_step s l.i h l.zeros false w.0.left) at l.invariant.2)))
+    c.if-zeros-b.branch in
+    let j = joined in omega arith
 
 pub loop-i-preserved : goal.loop-i-preserved
 loop-i-preserved c =
+    let joined : let i = c.loop-i.i in
+    let a = c.args in
+    let b = get_or a.s.now i 0 in
+    (c.if-zeros-b.zeros ≤ i) × Filled a.out.now (escaped a.s.now) c.if-zeros-b.out c.if-zeros-b.n (b ∷ escaped_behind (zeros_behind c.if-zeros-b.zeros b) (drop (i + 1) a.s.now)) =
+    let l = c.loop-i in
+    let s = c.args.s.now in
+    let h : l.i < length s = omega arith in
+    ⊎_elim
+    (λ w. (omega arith, rw (w.1, w.2, w.3) (one_filled (rw (escaped_step s l.i h l.zeros true w.0.taken) at l.invariant.2))))
+    (λ w. (omega arith, rw (w.1, w.2, w.3) (rw (escaped_step s l.i h l.zeros false w.0.left) at l.invariant.2)))
+    c.if-zeros-b.branch in
     let i = c.loop-i.i in
     let s = c.args.s.now in
-    let j = joined c in
+    let j = joined in
     (omega (arith, one_more_zero c.if-zeros-b.zeros (get_or s i 0)), omega arith, rw c.zeros_behind-zeros.ensures (one_filled j.1))
 
 pub shape_of-out : goal.shape_of-out

@@ -20,7 +20,13 @@ bounds-out-n c =
     let f = rw (removed_step s l.i (omega arith) l.zeros true c.if-zeros-b.true) at l.invariant.2 in omega arith
 
 pub overflow_add-n : goal.overflow_add-n
-overflow_add-n c = omega (arith, slice-write-out c)
+overflow_add-n c =
+    omega (
+      arith,
+      (let l = c.loop-i in
+          let s = c.args.s.now in
+          let f = rw (removed_step s l.i (omega arith) l.zeros true c.if-zeros-b.true) at l.invariant.2 in omega arith),
+    )
 
 pub loop-i-preserved : goal.loop-i-preserved
 loop-i-preserved c =

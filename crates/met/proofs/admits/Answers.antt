@@ -27,7 +27,7 @@ pub returns-in-Level1 : goal.returns-in-Level1
 returns-in-Level1 c = answered c.args.b c.requires (rw c.in-Level1.is)
 
 pub returns-in-Level2 : goal.returns-in-Level2
-returns-in-Level2 c =
+returns-in-Level2 c before e f =
     let s = c in
     let long : ltb s.args.m.twos most_targets ≡ true → most_targets ≤ length s.args.targets.now =
     λ k. let w : many 2 before < most_targets = ltb-true _ _ (rw e at k) in rw f (omega (arith, length_met before (omega arith))) in

@@ -2,7 +2,7 @@
 use Prim.Native.Nat.{ℕ, ◌+◌, ◌-◌, ◌<◌, ◌≤◌}
 use mathlib.Core.Path.{◌≡◌, refl}
 use mathlib.Core.List.{List}
-use mathlib.Core.Bool.{◌||◌, or_false}
+use mathlib.Core.Bool.{◌||◌, or-false}
 use native.Mathlib.Omega.{arith}
 use native.Mathlib.Numerals.{add-one}
 use borrow.Author.Rules.{rules}
@@ -18,7 +18,7 @@ use Rattle.met.proofs.has_target.Goals as goal
 -- one number more is looked at
 among-more : (t : ℕ) (xs : List ℕ) (j : ℕ) → j < length xs → among t (take (j + 1) xs) ≡ among t (take j xs) || eqb (get_or xs j 0) t
 unfolding among
-among-more t xs j h = rw (add-one, take-suc xs j 0 h, among-append, or_false, eqb_turned t (get_or xs j 0))
+among-more t xs j h = rw (add-one, take-suc xs j 0 h, among-append, or-false, eqb_turned t (get_or xs j 0))
 
 pub loop-j-init : goal.loop-j-init
 unfolding among
@@ -31,6 +31,6 @@ loop-j-preserved c =
     (omega arith, λ h. rw (among-more a.t a.targets.now l.j (omega arith), ← l.invariant.1 h))
 
 pub returns : goal.returns
-returns c =
+returns c h =
     let e : c.loop-j.j ≡ most_targets = omega arith in
     rw e at (c.loop-j.invariant.1 h)

@@ -31,11 +31,11 @@ loop-i-init c = begins (first_tags c.args.n c.args.a) (second_tags c.args.m c.ar
 pub overflow_add-i : goal.overflow_add-i
 overflow_add-i c =
     let whole-a : length c.args.a ≡ most_points =
-    c.well-formed.0.1.0.1 in
+    c.well_formed.0.1.0.1 in
     let size-a : length (first_tags c.args.n c.args.a) ≡ c.args.n =
     tags_length 0 (take c.args.n c.args.a) ∙ length-take-le c.args.n c.args.a (let w = whole-a in let h = c.requires.0 in omega (arith, w, h)) in
     let whole-b : length c.args.b ≡ most_points =
-    c.well-formed.1.1.0.1.0.1 in
+    c.well_formed.1.1.0.1.0.1 in
     let size-b : length (second_tags c.args.m c.args.b) ≡ c.args.m =
     tags_length most_points (take c.args.m c.args.b) ∙ length-take-le c.args.m c.args.b (let w = whole-b in let h = c.requires.1 in omega (arith, w, h)) in
     let bounds : Bounds c.args.n c.args.m c.loop-i.i c.loop-i.j c.loop-i.k =
@@ -47,11 +47,11 @@ overflow_add-i c =
 pub overflow_add-n : goal.overflow_add-n
 overflow_add-n c =
     let whole-a : length c.args.a ≡ most_points =
-    c.well-formed.0.1.0.1 in
+    c.well_formed.0.1.0.1 in
     let size-a : length (first_tags c.args.n c.args.a) ≡ c.args.n =
     tags_length 0 (take c.args.n c.args.a) ∙ length-take-le c.args.n c.args.a (let w = whole-a in let h = c.requires.0 in omega (arith, w, h)) in
     let whole-b : length c.args.b ≡ most_points =
-    c.well-formed.1.1.0.1.0.1 in
+    c.well_formed.1.1.0.1.0.1 in
     let size-b : length (second_tags c.args.m c.args.b) ≡ c.args.m =
     tags_length most_points (take c.args.m c.args.b) ∙ length-take-le c.args.m c.args.b (let w = whole-b in let h = c.requires.1 in omega (arith, w, h)) in
     let bounds : Bounds c.args.n c.args.m c.loop-i.i c.loop-i.j c.loop-i.k =
@@ -67,11 +67,11 @@ returns-then-k-eq-POINTS c =
     let turnAt : (e f : ℕ) (x y : ℤ) → Turn =
     λ e f x y. turn_of (next_of (ltb c.loop-i.i c.args.n) (tag e x) (ltb c.loop-i.j c.args.m) (tag (most_points + f) y)) in
     let whole-a : length c.args.a ≡ most_points =
-    c.well-formed.0.1.0.1 in
+    c.well_formed.0.1.0.1 in
     let size-a : length (first_tags c.args.n c.args.a) ≡ c.args.n =
     tags_length 0 (take c.args.n c.args.a) ∙ length-take-le c.args.n c.args.a (let w = whole-a in let h = c.requires.0 in omega (arith, w, h)) in
     let whole-b : length c.args.b ≡ most_points =
-    c.well-formed.1.1.0.1.0.1 in
+    c.well_formed.1.1.0.1.0.1 in
     let size-b : length (second_tags c.args.m c.args.b) ≡ c.args.m =
     tags_length most_points (take c.args.m c.args.b) ∙ length-take-le c.args.m c.args.b (let w = whole-b in let h = c.requires.1 in omega (arith, w, h)) in
     let bounds : Bounds c.args.n c.args.m c.loop-i.i c.loop-i.j c.loop-i.k =
@@ -90,11 +90,11 @@ returns-then-k-eq-POINTS c =
 pub bounds-out-k : goal.bounds-out-k
 bounds-out-k c =
     let whole-a : length c.args.a ≡ most_points =
-    c.well-formed.0.1.0.1 in
+    c.well_formed.0.1.0.1 in
     let size-a : length (first_tags c.args.n c.args.a) ≡ c.args.n =
     tags_length 0 (take c.args.n c.args.a) ∙ length-take-le c.args.n c.args.a (let w = whole-a in let h = c.requires.0 in omega (arith, w, h)) in
     let whole-b : length c.args.b ≡ most_points =
-    c.well-formed.1.1.0.1.0.1 in
+    c.well_formed.1.1.0.1.0.1 in
     let size-b : length (second_tags c.args.m c.args.b) ≡ c.args.m =
     tags_length most_points (take c.args.m c.args.b) ∙ length-take-le c.args.m c.args.b (let w = whole-b in let h = c.requires.1 in omega (arith, w, h)) in
     let bounds : Bounds c.args.n c.args.m c.loop-i.i c.loop-i.j c.loop-i.k =
@@ -116,11 +116,11 @@ overflow_add-i-in-loop-i c =
     let fits-y : SFits w32 (get_or c.args.b c.clamp-f.result (pos 0)) =
     record { sfits = c.y-1.given } in
     let whole-a : length c.args.a ≡ most_points =
-    c.well-formed.0.1.0.1 in
+    c.well_formed.0.1.0.1 in
     let size-a : length (first_tags c.args.n c.args.a) ≡ c.args.n =
     tags_length 0 (take c.args.n c.args.a) ∙ length-take-le c.args.n c.args.a (let w = whole-a in let h = c.requires.0 in omega (arith, w, h)) in
     let whole-b : length c.args.b ≡ most_points =
-    c.well-formed.1.1.0.1.0.1 in
+    c.well_formed.1.1.0.1.0.1 in
     let size-b : length (second_tags c.args.m c.args.b) ≡ c.args.m =
     tags_length most_points (take c.args.m c.args.b) ∙ length-take-le c.args.m c.args.b (let w = whole-b in let h = c.requires.1 in omega (arith, w, h)) in
     let bounds : Bounds c.args.n c.args.m c.loop-i.i c.loop-i.j c.loop-i.k =
@@ -157,11 +157,11 @@ overflow_add-j c =
     let fits-y : SFits w32 (get_or c.args.b c.clamp-f.result (pos 0)) =
     record { sfits = c.y-1.given } in
     let whole-a : length c.args.a ≡ most_points =
-    c.well-formed.0.1.0.1 in
+    c.well_formed.0.1.0.1 in
     let size-a : length (first_tags c.args.n c.args.a) ≡ c.args.n =
     tags_length 0 (take c.args.n c.args.a) ∙ length-take-le c.args.n c.args.a (let w = whole-a in let h = c.requires.0 in omega (arith, w, h)) in
     let whole-b : length c.args.b ≡ most_points =
-    c.well-formed.1.1.0.1.0.1 in
+    c.well_formed.1.1.0.1.0.1 in
     let size-b : length (second_tags c.args.m c.args.b) ≡ c.args.m =
     tags_length most_points (take c.args.m c.args.b) ∙ length-take-le c.args.m c.args.b (let w = whole-b in let h = c.requires.1 in omega (arith, w, h)) in
     let bounds : Bounds c.args.n c.args.m c.loop-i.i c.loop-i.j c.loop-i.k =
@@ -190,11 +190,11 @@ overflow_add-j c =
 pub overflow_add-k : goal.overflow_add-k
 overflow_add-k c =
     let whole-a : length c.args.a ≡ most_points =
-    c.well-formed.0.1.0.1 in
+    c.well_formed.0.1.0.1 in
     let size-a : length (first_tags c.args.n c.args.a) ≡ c.args.n =
     tags_length 0 (take c.args.n c.args.a) ∙ length-take-le c.args.n c.args.a (let w = whole-a in let h = c.requires.0 in omega (arith, w, h)) in
     let whole-b : length c.args.b ≡ most_points =
-    c.well-formed.1.1.0.1.0.1 in
+    c.well_formed.1.1.0.1.0.1 in
     let size-b : length (second_tags c.args.m c.args.b) ≡ c.args.m =
     tags_length most_points (take c.args.m c.args.b) ∙ length-take-le c.args.m c.args.b (let w = whole-b in let h = c.requires.1 in omega (arith, w, h)) in
     let bounds : Bounds c.args.n c.args.m c.loop-i.i c.loop-i.j c.loop-i.k =
@@ -216,11 +216,11 @@ loop-i-smaller c =
     let fits-y : SFits w32 (get_or c.args.b c.clamp-f.result (pos 0)) =
     record { sfits = c.y-1.given } in
     let whole-a : length c.args.a ≡ most_points =
-    c.well-formed.0.1.0.1 in
+    c.well_formed.0.1.0.1 in
     let size-a : length (first_tags c.args.n c.args.a) ≡ c.args.n =
     tags_length 0 (take c.args.n c.args.a) ∙ length-take-le c.args.n c.args.a (let w = whole-a in let h = c.requires.0 in omega (arith, w, h)) in
     let whole-b : length c.args.b ≡ most_points =
-    c.well-formed.1.1.0.1.0.1 in
+    c.well_formed.1.1.0.1.0.1 in
     let size-b : length (second_tags c.args.m c.args.b) ≡ c.args.m =
     tags_length most_points (take c.args.m c.args.b) ∙ length-take-le c.args.m c.args.b (let w = whole-b in let h = c.requires.1 in omega (arith, w, h)) in
     let bounds : Bounds c.args.n c.args.m c.loop-i.i c.loop-i.j c.loop-i.k =
@@ -256,11 +256,11 @@ loop-i-preserved c =
     let fits-y : SFits w32 (get_or c.args.b c.clamp-f.result (pos 0)) =
     record { sfits = c.y-1.given } in
     let whole-a : length c.args.a ≡ most_points =
-    c.well-formed.0.1.0.1 in
+    c.well_formed.0.1.0.1 in
     let size-a : length (first_tags c.args.n c.args.a) ≡ c.args.n =
     tags_length 0 (take c.args.n c.args.a) ∙ length-take-le c.args.n c.args.a (let w = whole-a in let h = c.requires.0 in omega (arith, w, h)) in
     let whole-b : length c.args.b ≡ most_points =
-    c.well-formed.1.1.0.1.0.1 in
+    c.well_formed.1.1.0.1.0.1 in
     let size-b : length (second_tags c.args.m c.args.b) ≡ c.args.m =
     tags_length most_points (take c.args.m c.args.b) ∙ length-take-le c.args.m c.args.b (let w = whole-b in let h = c.requires.1 in omega (arith, w, h)) in
     let bounds : Bounds c.args.n c.args.m c.loop-i.i c.loop-i.j c.loop-i.k =
@@ -288,11 +288,11 @@ loop-i-preserved c =
 pub returns : goal.returns
 returns c =
     let whole-a : length c.args.a ≡ most_points =
-    c.well-formed.0.1.0.1 in
+    c.well_formed.0.1.0.1 in
     let size-a : length (first_tags c.args.n c.args.a) ≡ c.args.n =
     tags_length 0 (take c.args.n c.args.a) ∙ length-take-le c.args.n c.args.a (let w = whole-a in let h = c.requires.0 in omega (arith, w, h)) in
     let whole-b : length c.args.b ≡ most_points =
-    c.well-formed.1.1.0.1.0.1 in
+    c.well_formed.1.1.0.1.0.1 in
     let size-b : length (second_tags c.args.m c.args.b) ≡ c.args.m =
     tags_length most_points (take c.args.m c.args.b) ∙ length-take-le c.args.m c.args.b (let w = whole-b in let h = c.requires.1 in omega (arith, w, h)) in
     let s = c in

@@ -13,7 +13,10 @@ use Rattle.reason.proofs.Longest.{no_reason_is_longer, longest_bytes}
 use Rattle.reason.proofs.write_reason.Goals as goal
 
 pub put_reason-n-requires : goal.put_reason-n-requires
-put_reason-n-requires c = omega (arith, roomy, longest_bytes)
+put_reason-n-requires c =
+    let roomy : length (reason_text c.args.q) ≤ length longest =
+    let q = c.args.q in no_reason_is_longer q.result q.offset q.cause (omega arith) (omega arith) (omega arith) (omega arith) (omega arith) in
+    omega (arith, roomy, longest_bytes)
 
 pub returns-then-out-n : goal.returns-then-out-n
 returns-then-out-n c =
@@ -23,6 +26,8 @@ returns-then-out-n c =
 
 pub slice_bounds-page-end : goal.slice_bounds-page-end
 slice_bounds-page-end c =
+    let roomy : length (reason_text c.args.q) ≤ length longest =
+    let q = c.args.q in no_reason_is_longer q.result q.offset q.cause (omega arith) (omega arith) (omega arith) (omega arith) (omega arith) in
     let put = c.put_reason-n in
     let page : length put.new.out ≡ length longest = put.ensures.same ∙ sym longest_bytes in
     omega (arith, (typed_whole put.ensures).1, page, roomy)

@@ -14,12 +14,16 @@ use Rattle.text.proofs.put_signed.Goals as goal
 
 pub put_text-p-requires : goal.put_text-p-requires
 put_text-p-requires c =
+    let room : RoomForText c.args.out.now c.args.at (c.args.key.now ++ (sign c.args.n ++ (decimal (nat_abs c.args.n) ++ ascii "\n"))) =
+    subst (λ (t : List ℕ). RoomForText c.args.out.now c.args.at t) (signed_entry c.args.key.now c.args.n) c.requires in
     let s = c in
     let n = s.args.n in
     room_first _ _ s.args.key.now (sign n ++ (decimal (nat_abs n) ++ ascii "\n")) (room)
 
 pub put_sign-q-requires : goal.put_sign-q-requires
 put_sign-q-requires c =
+    let room : RoomForText c.args.out.now c.args.at (c.args.key.now ++ (sign c.args.n ++ (decimal (nat_abs c.args.n) ++ ascii "\n"))) =
+    subst (λ (t : List ℕ). RoomForText c.args.out.now c.args.at t) (signed_entry c.args.key.now c.args.n) c.requires in
     let s = c in
     let n = s.args.n in
     let rest = decimal (nat_abs n) ++ ascii "\n" in
@@ -27,6 +31,8 @@ put_sign-q-requires c =
 
 pub put_line-requires : goal.put_line-requires
 put_line-requires c =
+    let room : RoomForText c.args.out.now c.args.at (c.args.key.now ++ (sign c.args.n ++ (decimal (nat_abs c.args.n) ++ ascii "\n"))) =
+    subst (λ (t : List ℕ). RoomForText c.args.out.now c.args.at t) (signed_entry c.args.key.now c.args.n) c.requires in
     let s = c in
     let n = s.args.n in
     let e = to_z-of_z w16 n s.ranges.n in

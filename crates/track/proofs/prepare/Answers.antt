@@ -33,6 +33,9 @@ by_tests x u v = made (refused u v) (cond (eqb (refused u v) 0) (cond x.«record
 
 pub returns-then-not-is_valid : goal.returns-then-not-is_valid
 returns-then-not-is_valid c =
+    let told : (result count : ℕ)
+    → let a = c.args in made result count (point_with a.r (to_z w32 (of_z w32 a.picture)) a.segment) ≡ made result count (point_with a.r a.picture a.segment) =
+    λ result count. let a = c.args in ap (λ (k : ℤ). made result count (point_with a.r k a.segment)) (to_z-of_z w32 a.picture c.ranges.picture) in
     let s = c in
     let a = s.args in
     let x = point_with a.r a.picture a.segment in
@@ -40,6 +43,9 @@ returns-then-not-is_valid c =
 
 pub returns-then-entries-ne-POINTS : goal.returns-then-entries-ne-POINTS
 returns-then-entries-ne-POINTS c =
+    let told : (result count : ℕ)
+    → let a = c.args in made result count (point_with a.r (to_z w32 (of_z w32 a.picture)) a.segment) ≡ made result count (point_with a.r a.picture a.segment) =
+    λ result count. let a = c.args in ap (λ (k : ℤ). made result count (point_with a.r k a.segment)) (to_z-of_z w32 a.picture c.ranges.picture) in
     let s = c in
     let a = s.args in
     let x = point_with a.r a.picture a.segment in
@@ -48,6 +54,9 @@ returns-then-entries-ne-POINTS c =
 
 pub returns : goal.returns
 returns c =
+    let told : (result count : ℕ)
+    → let a = c.args in made result count (point_with a.r (to_z w32 (of_z w32 a.picture)) a.segment) ≡ made result count (point_with a.r a.picture a.segment) =
+    λ result count. let a = c.args in ap (λ (k : ℤ). made result count (point_with a.r k a.segment)) (to_z-of_z w32 a.picture c.ranges.picture) in
     let s = c in
     let a = s.args in
     let x = point_with a.r a.picture a.segment in

@@ -1,6 +1,6 @@
 -- `valid::same_target` meets its contract.
 use mathlib.Core.List.{[], ◌∷◌}
-use mathlib.Core.Bool.{or_false, not-not}
+use mathlib.Core.Bool.{or-false, not-not}
 use borrow.Author.Rules.{rules}
 use Rattle.record.proofs.Laws.{eqb_turned}
 use Rattle.valid.specs.Valid.{targets, among}
@@ -23,7 +23,7 @@ returns-in-Level1-b c = rw c.in-Level1-b.is
 
 pub returns-in-Level2-b : goal.returns-in-Level2-b
 unfolding targets among
-returns-in-Level2-b c = rw (c.in-Level2.is, c.in-Level2-b.is, not-not, or_false, eqb_turned c.in-Level2.x)
+returns-in-Level2-b c = rw (c.in-Level2.is, c.in-Level2-b.is, not-not, or-false, eqb_turned c.in-Level2.x)
 
 pub returns-in-Level5-b : goal.returns-in-Level5-b
 returns-in-Level5-b c = rw c.in-Level5-b.is
