@@ -32,6 +32,11 @@ typed_copy out s at h =
     let none : drop (length out - at) (drop at out) ≡ [] = drop-drop (length out - at) at out ∙ rw k (drop-length out) in
     rw (part, none, append-nil (take n s ++ drop n (drop at out)), drop-drop n at out, ← append_assoc (take at out) (take n s) (drop (at + n) out)) (typed_paste out s at h)
 
+-- a text that was copied into the part of the buffer that is as long, from place at on
+pub typed_mid : (out s : List ℕ) (at : ℕ) → at + length s ≤ length out → Typed out at s (take at out ++ (s ++ drop (length s) (drop at out))) (at + length s)
+typed_mid out s at h =
+    rw (drop-drop (length s) at out, ← append_assoc (take at out) s (drop (at + length s) out), ← ap (λ (t : List ℕ). take at out ++ t ++ drop (at + length s) out) (take-length s)) (typed_paste out s at h)
+
 -- a text that was stored byte by byte
 pub typed_sets : (out s : List ℕ) (at : ℕ) → at + length s ≤ length out → Typed out at s (sets out at s) (at + length s)
 typed_sets out s at h = rw (sets-eq s out at h, ← ap (λ (t : List ℕ). take at out ++ t ++ drop (at + length s) out) (take-length s)) (typed_paste out s at h)

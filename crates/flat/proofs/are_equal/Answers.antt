@@ -21,7 +21,7 @@ loop-k-init c = (omega arith, refl)
 pub loop-k-preserved : goal.loop-k-preserved
 loop-k-preserved c =
     let long : (length c.args.a ≡ 8) × (length c.args.b ≡ 8) =
-    (c.well-formed.0.1.0.1, c.well-formed.1.0.1.0.1) in
+    (c.well_formed.0.1.0.1, c.well_formed.1.0.1.0.1) in
     let l = c.loop-k in
     let s = c in
     let a = s.args.a in
@@ -39,7 +39,7 @@ loop-k-preserved c =
 pub returns : goal.returns
 returns c =
     let long : (length c.args.a ≡ 8) × (length c.args.b ≡ 8) =
-    (c.well-formed.0.1.0.1, c.well-formed.1.0.1.0.1) in
+    (c.well_formed.0.1.0.1, c.well_formed.1.0.1.0.1) in
     let l = c.loop-k in
     let s = c in
     let n = long in

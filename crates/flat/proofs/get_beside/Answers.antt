@@ -45,11 +45,11 @@ loop-i-preserved c =
     let n : at + (2 + 8 * v.i) ≡ at + 2 + 8 * v.i = omega arith in
     let eight : c.eight_at-eight.result ≡ place_numbers l v.i =
     c.eight_at-eight.ensures ∙ ap (λ (k : ℕ). take 8 (drop k row)) (sym n) ∙ sym (part_of at flat_length (2 + 8 * v.i) 8 row (omega arith)) in
-    let block : c.block_of_lem.result ≡ block_said (place_numbers l v.i) = c.block_of_lem.ensures ∙ ap block_said eight in
+    let block : c.block_of-block.result ≡ block_said (place_numbers l v.i) = c.block_of-block.ensures ∙ ap block_said eight in
     let named : c.are_equal-named.result ≡ names_block (place_numbers l v.i) =
     c.are_equal-named.ensures ∙ rw (eight, c.eight_of.ensures, block) in (
       omega arith,
-      read_more l v.i v.r c.block_of_lem.result (omega arith) v.invariant.1 block,
+      read_more l v.i v.r c.block_of-block.result (omega arith) v.invariant.1 block,
       named_more s.args.beside l v.i v.named c.are_equal-named.result v.invariant.2 named,
     )
 

@@ -18,7 +18,7 @@ loop-k-init c = (omega arith, refl, paste-zero c.args.row.now c.args.at c.args.e
 pub loop-k-preserved : goal.loop-k-preserved
 loop-k-preserved c =
     let long : length c.args.eight ≡ 8 =
-    c.well-formed.1.1.0.1.0.1 in
+    c.well_formed.1.1.0.1.0.1 in
     let l = c.loop-k in
     let s = c in
     let d = s.args.row.now in

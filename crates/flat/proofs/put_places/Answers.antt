@@ -19,7 +19,7 @@ loop-i-init c = (omega arith, refl, paste-zero c.args.row.now (c.args.at + 2) (f
 pub loop-i-preserved : goal.loop-i-preserved
 loop-i-preserved c =
     let long : length c.args.r.places ≡ 18 =
-    sym (length-map c.args.r.places _) ∙ c.well-formed.1.1.0.1.1.1.1.0.1.0.1 in
+    c.well_formed.1.1.0.1.1.1.1.0.1.0.1 in
     let put = c.put_eight in
     let s = c in
     let l = c.loop-i in

@@ -39,7 +39,7 @@ behind-requires c =
     ue_short a.at (drop a.at (bits_of a.s.now)) c.in-Is.version c.in-Is.n (sym c.in-Is.is ∙ c.read_ue.ensures) in
     let d = c in
     let a = d.args in
-    let few : opening_took c.read_flag_lem.result ≤ 1 + longest = rw c.read_flag_lem.ensures (took_few (1 + longest) from_flag brief_flag (a.at + d.in-Is.n) (drop (a.at + d.in-Is.n) (bits_of a.s.now))) in
+    let few : opening_took c.read_flag.result ≤ 1 + longest = rw c.read_flag.ensures (took_few (1 + longest) from_flag brief_flag (a.at + d.in-Is.n) (drop (a.at + d.in-Is.n) (bits_of a.s.now))) in
     omega (arith, short, few)
 
 pub returns-in-Refused : goal.returns-in-Refused
@@ -54,5 +54,5 @@ returns-else-version-ne-VERSION c =
     let d = c in
     let a = d.args in
     let n = d.in-Is.n in
-    c.behind.ensures ∙ ap (opening_behind n) c.read_flag_lem.ensures
+    c.behind.ensures ∙ ap (opening_behind n) c.read_flag.ensures
     ∙ one_on app_version wrong_version 0 from_flag a.at (bits_of a.s.now) d.in-Is.version n (sym d.in-Is.is ∙ d.read_ue.ensures) c.if-version-ne-VERSION.false

@@ -3,4 +3,4 @@ use borrow.Author.Rules.{rules}
 use Rattle.listing.proofs.is_listable.Goals as goal
 
 pub returns : goal.returns
-returns c = rw c.is_valid_lem.ensures
+returns c = rw c.is_valid.ensures

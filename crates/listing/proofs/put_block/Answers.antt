@@ -12,17 +12,17 @@ unfolding ascii
 put_line-p-requires c =
     let s = c in
     let b = s.args.b in
-    rw c.level_of_lem.ensures (room_one (line "level" (pos (level_of b))) (field_lines (level (level_of b)).fields (values_of b)) s.args.out.now s.args.at s.requires)
+    rw c.level_of-l.ensures (room_one (line "level" (pos (level_of b))) (field_lines (level (level_of b)).fields (values_of b)) s.args.out.now s.args.at s.requires)
 
 pub put_fields-requires : goal.put_fields-requires
 unfolding ascii
 put_fields-requires c =
     let s = c in
     let b = s.args.b in
-    after_one (line "level" (pos (level_of b))) (field_lines (level (level_of b)).fields (values_of b)) (rw c.level_of_lem.ensures at c.put_line-p.ensures) s.requires
+    after_one (line "level" (pos (level_of b))) (field_lines (level (level_of b)).fields (values_of b)) (rw c.level_of-l.ensures at c.put_line-p.ensures) s.requires
 
 pub returns : goal.returns
 unfolding ascii
 returns c =
     let b = c.args.b in
-    typed_one (line "level" (pos (level_of b))) (field_lines (level (level_of b)).fields (values_of b)) (rw c.level_of_lem.ensures at c.put_line-p.ensures) c.put_fields.ensures
+    typed_one (line "level" (pos (level_of b))) (field_lines (level (level_of b)).fields (values_of b)) (rw c.level_of-l.ensures at c.put_line-p.ensures) c.put_fields.ensures

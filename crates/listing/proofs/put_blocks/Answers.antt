@@ -24,7 +24,7 @@ bounds-r-j c = omega (arith, c.requires.1)
 pub put_block-p-requires : goal.put_block-p-requires
 put_block-p-requires c =
     let long : length c.args.r.places ≡ most_blocks =
-    sym (length-map c.args.r.places _) ∙ c.well-formed.1.1.0.1.1.1.1.0.1.0.1 in
+    c.well_formed.1.1.0.1.1.1.1.0.1.0.1 in
     let s = c in
     let l = c.loop-j in
     let r = s.args.r in
@@ -33,7 +33,7 @@ put_block-p-requires c =
 pub loop-j-preserved : goal.loop-j-preserved
 loop-j-preserved c =
     let long : length c.args.r.places ≡ most_blocks =
-    sym (length-map c.args.r.places _) ∙ c.well-formed.1.1.0.1.1.1.1.0.1.0.1 in
+    c.well_formed.1.1.0.1.1.1.1.0.1.0.1 in
     let s = c in
     let l = c.loop-j in
     (omega arith, rw (text_more s.args.r l.j (omega (arith, s.requires.1, long))) (typed_then l.invariant.1 c.put_block-p.ensures))

@@ -58,7 +58,7 @@ returns-then-is_valid c =
     let e : got ≡ r = read in
     let p : point_with got (to_z w32 (of_z w32 a.picture)) a.segment ≡ x = same_point (to_z-of_z w32 a.picture c.ranges.picture) refl e in
     let t = sized in
-    let good : valid r ≡ true = sym (c.is_valid_lem.ensures ∙ ap valid e) ∙ c.if-is_valid.true in
+    let good : valid r ≡ true = sym (c.is_valid.ensures ∙ ap valid e) ∙ c.if-is_valid.true in
     let done : place_refusal x most_points ≡ 0 = ap (λ (u : Bool). cond u 0 not_valid) good in
     let place = c.place_point in (
       sym done ∙ right (is_record a.numbers.now && is_table a.table.now) (place_refusal x most_points) (and_both (is_record a.numbers.now) (is_table a.table.now) t.0 t.1),
@@ -80,7 +80,7 @@ returns c =
     let x = point_named a.numbers.now a.picture a.segment in
     let e = read in
     let t = sized in
-    let bad : valid r ≡ false = sym (c.is_valid_lem.ensures ∙ ap valid e) ∙ c.if-is_valid.false in (
+    let bad : valid r ≡ false = sym (c.is_valid.ensures ∙ ap valid e) ∙ c.if-is_valid.false in (
       sym (ap (λ (u : Bool). cond u 0 not_valid) bad) ∙ right (is_record a.numbers.now && is_table a.table.now) (place_refusal x most_points) (and_both (is_record a.numbers.now) (is_table a.table.now) t.0 t.1),
       (refl, refl),
     ) in record { result = both.0; table = both.1; count = both.2 }

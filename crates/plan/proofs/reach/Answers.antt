@@ -22,7 +22,7 @@ loop-i-init c = (search rules, sym (zero-add _))
 pub returns-then-picture-k : goal.returns-then-picture-k
 returns-then-picture-k c =
     let whole : length c.args.pictures ≡ most_points =
-    c.well-formed.0.1.0.1 in
+    c.well_formed.0.1.0.1 in
     let number : to_z w32 (of_z w32 c.args.picture) ≡ c.args.picture =
     to_z-of_z w32 c.args.picture c.ranges.picture in
     let tested : (b : Bool)
@@ -41,7 +41,7 @@ returns-then-picture-k c =
 pub loop-i-preserved : goal.loop-i-preserved
 loop-i-preserved c =
     let whole : length c.args.pictures ≡ most_points =
-    c.well-formed.0.1.0.1 in
+    c.well_formed.0.1.0.1 in
     let number : to_z w32 (of_z w32 c.args.picture) ≡ c.args.picture =
     to_z-of_z w32 c.args.picture c.ranges.picture in
     let tested : (b : Bool)
@@ -62,7 +62,7 @@ loop-i-preserved c =
 pub returns : goal.returns
 returns c =
     let whole : length c.args.pictures ≡ most_points =
-    c.well-formed.0.1.0.1 in
+    c.well_formed.0.1.0.1 in
     let number : to_z w32 (of_z w32 c.args.picture) ≡ c.args.picture =
     to_z-of_z w32 c.args.picture c.ranges.picture in
     let a = c in

@@ -24,17 +24,17 @@ pub returns-then-number_of-eq0 : goal.returns-then-number_of-eq0
 unfolding ascii
 returns-then-number_of-eq0 c =
     let a = c.args in
-    subst (λ (t : List ℕ). Typed a.out.now 0 t c.put_line-p.new.out c.put_line-p.result) (sym (result_only a.result a.offset a.c (sym c.number_of_lem.ensures ∙ c.if-number_of-eq0.true))) c.put_line-p.ensures
+    subst (λ (t : List ℕ). Typed a.out.now 0 t c.put_line-p.new.out c.put_line-p.result) (sym (result_only a.result a.offset a.c (sym c.number_of.ensures ∙ c.if-number_of-eq0.true))) c.put_line-p.ensures
 
 pub put_placed-requires : goal.put_placed-requires
 unfolding ascii
 put_placed-requires c =
     let s = c in
     let a = s.args in
-    room_left c.put_line-p.ensures (placed a.offset a.c) (subst (λ (t : List ℕ). RoomForText a.out.now 0 t) (result_then a.result a.offset a.c (λ e. c.if-number_of-eq0.false (c.number_of_lem.ensures ∙ e))) s.requires)
+    room_left c.put_line-p.ensures (placed a.offset a.c) (subst (λ (t : List ℕ). RoomForText a.out.now 0 t) (result_then a.result a.offset a.c (λ e. c.if-number_of-eq0.false (c.number_of.ensures ∙ e))) s.requires)
 
 pub returns : goal.returns
 unfolding ascii
 returns c =
     let a = c.args in
-    subst (λ (t : List ℕ). Typed a.out.now 0 t c.put_placed.new.out c.put_placed.result) (sym (result_then a.result a.offset a.c (λ e. c.if-number_of-eq0.false (c.number_of_lem.ensures ∙ e)))) (typed_then c.put_line-p.ensures c.put_placed.ensures)
+    subst (λ (t : List ℕ). Typed a.out.now 0 t c.put_placed.new.out c.put_placed.result) (sym (result_then a.result a.offset a.c (λ e. c.if-number_of-eq0.false (c.number_of.ensures ∙ e)))) (typed_then c.put_line-p.ensures c.put_placed.ensures)

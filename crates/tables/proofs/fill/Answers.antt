@@ -42,7 +42,7 @@ put_point-requires c =
 pub loop-k-preserved : goal.loop-k-preserved
 loop-k-preserved c =
     let long : length c.args.layout.sources ≡ most_points =
-    sym (length-map c.args.layout.sources _) ∙ c.well-formed.1.1.1.0.1.1.1.1.0.1.0.1 in
+    c.well_formed.1.1.1.0.1.1.1.1.0.1.0.1 in
     let s = c in
     let l = c.loop-k in
     let put = c.put_point in
@@ -72,7 +72,7 @@ loop-k-preserved c =
 pub returns : goal.returns
 returns c =
     let long : length c.args.layout.sources ≡ most_points =
-    sym (length-map c.args.layout.sources _) ∙ c.well-formed.1.1.1.0.1.1.1.1.0.1.0.1 in
+    c.well_formed.1.1.1.0.1.1.1.1.0.1.0.1 in
     let s = c in
     let l = c.loop-k in
     let a = s.args.first.now in

@@ -1,10 +1,12 @@
 -- `text::put_text` meets its contract: the text is copied to the part of the buffer from place at on.
-use borrow.Author.Rules.{rules}
-use Rattle.text.proofs.Typing.{typed_copy}
+use Prim.Native.Nat.{ℕ, ◌+◌, ◌-◌}
+use mathlib.Core.Path.{◌≡◌}
+use native.Mathlib.Omega.{arith}
+use lib.ListN.{length}
+use Rattle.text.proofs.Typing.{typed_mid}
 use Rattle.text.proofs.put_text.Goals as goal
 
 pub returns : goal.returns
 returns c =
-    let s = c in
-    let copy = c.copy in
-    rw (copy.ensures.1, copy.ensures.0) (typed_copy s.args.out.now s.args.s.now s.args.at s.requires)
+    let k : c.args.at + length c.args.s.now - c.args.at ≡ length c.args.s.now = omega arith in
+    rw (k, c.copy_from_slice.ensures.after) (typed_mid c.args.out.now c.args.s.now c.args.at c.requires)

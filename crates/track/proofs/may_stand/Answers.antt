@@ -5,4 +5,4 @@ use borrow.Author.Rules.{rules}
 use Rattle.track.proofs.may_stand.Goals as goal
 
 pub returns : goal.returns
-returns c = ap (λ (b : Bool). c.args.shown.refresh && b) c.is_valid_lem.ensures
+returns c = ap (λ (b : Bool). c.args.shown.refresh && b) c.is_valid.ensures

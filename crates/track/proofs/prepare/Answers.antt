@@ -39,7 +39,7 @@ returns-then-not-is_valid c =
     let s = c in
     let a = s.args in
     let x = point_with a.r a.picture a.segment in
-    told not_valid 0 ∙ ap (λ (u : Bool). by_tests x u (eqb a.entries most_points)) (sym (is_false c.is_valid_lem.result c.if-not-is_valid.true) ∙ c.is_valid_lem.ensures)
+    told not_valid 0 ∙ ap (λ (u : Bool). by_tests x u (eqb a.entries most_points)) (sym (is_false c.is_valid.result c.if-not-is_valid.true) ∙ c.is_valid.ensures)
 
 pub returns-then-entries-ne-POINTS : goal.returns-then-entries-ne-POINTS
 returns-then-entries-ne-POINTS c =
@@ -50,7 +50,7 @@ returns-then-entries-ne-POINTS c =
     let a = s.args in
     let x = point_with a.r a.picture a.segment in
     told unfit_output 0 ∙ ap (by_tests x true) (sym (ne_eqb a.entries most_points c.if-entries-ne-POINTS.true))
-    ∙ ap (λ (u : Bool). by_tests x u (eqb a.entries most_points)) (sym (is_true c.is_valid_lem.result c.if-not-is_valid.false) ∙ c.is_valid_lem.ensures)
+    ∙ ap (λ (u : Bool). by_tests x u (eqb a.entries most_points)) (sym (is_true c.is_valid.result c.if-not-is_valid.false) ∙ c.is_valid.ensures)
 
 pub returns : goal.returns
 returns c =
@@ -60,7 +60,7 @@ returns c =
     let s = c in
     let a = s.args in
     let x = point_with a.r a.picture a.segment in
-    let u = is_true c.is_valid_lem.result c.if-not-is_valid.false in
+    let u = is_true c.is_valid.result c.if-not-is_valid.false in
     told 0 (bool_byte a.r.refresh) ∙ ap (λ (n : ℕ). made 0 n x) (byte-is a.r.refresh)
     ∙ ap (by_tests x true) (sym (eq-eqb a.entries most_points c.if-entries-ne-POINTS.false))
-    ∙ ap (λ (v : Bool). by_tests x v (eqb a.entries most_points)) (sym u ∙ c.is_valid_lem.ensures)
+    ∙ ap (λ (v : Bool). by_tests x v (eqb a.entries most_points)) (sym u ∙ c.is_valid.ensures)

@@ -33,14 +33,14 @@ loop-j-init c = (omega arith, refl)
 pub loop-j-preserved-then-j-eq0 : goal.loop-j-preserved-then-j-eq0
 loop-j-preserved-then-j-eq0 c =
     let long : length c.args.r.places ≡ most_blocks =
-    sym (length-map c.args.r.places _) ∙ c.well-formed.0.1.1.1.1.0.1.0.1 in
+    c.well_formed.0.1.1.1.1.0.1.0.1 in
     let s = c in
     let l = c.loop-j in
     let r = s.args.r in
     let n = r.count in
     let h : n ≤ length r.places = omega (arith, long) in
     let d = c in
-    let f : valid_block (block_at r l.j) ≡ true = tested (block_at r l.j) d.level_of_lem.result d.in_range.result d.in_order.result true d.level_of_lem.ensures d.in_range.ensures d.in_order.ensures c.if-level_of-in_range.true in
+    let f : valid_block (block_at r l.j) ≡ true = tested (block_at r l.j) d.level_of.result d.in_range.result d.in_order.result true d.level_of.ensures d.in_range.ensures d.in_order.ensures c.if-level_of-in_range.true in
     let z : l.j ≡ 0 = omega arith in
     let m : may_follow (take l.j (all_blocks r)) (block_at r l.j) ≡ true = rw z (first_follows (block_at r 0) (rw z at f)) in
     (omega arith, (rw (walk_more r l.j n (omega arith) h, f, m) at l.invariant.1))
@@ -48,28 +48,28 @@ loop-j-preserved-then-j-eq0 c =
 pub loop-j-preserved : goal.loop-j-preserved
 loop-j-preserved c =
     let long : length c.args.r.places ≡ most_blocks =
-    sym (length-map c.args.r.places _) ∙ c.well-formed.0.1.1.1.1.0.1.0.1 in
+    c.well_formed.0.1.1.1.1.0.1.0.1 in
     let s = c in
     let l = c.loop-j in
     let r = s.args.r in
     let n = r.count in
     let h : n ≤ length r.places = omega (arith, long) in
     let d = c in
-    let f : valid_block (block_at r l.j) ≡ true = tested (block_at r l.j) d.level_of_lem.result d.in_range.result d.in_order.result true d.level_of_lem.ensures d.in_range.ensures d.in_order.ensures c.if-level_of-in_range.true in
+    let f : valid_block (block_at r l.j) ≡ true = tested (block_at r l.j) d.level_of.result d.in_range.result d.in_order.result true d.level_of.ensures d.in_range.ensures d.in_order.ensures c.if-level_of-in_range.true in
     let m : may_follow (take l.j (all_blocks r)) (block_at r l.j) ≡ true = sym c.may_follow.ensures ∙ c.if-may_follow.true in
     (omega arith, (rw (walk_more r l.j n (omega arith) h, f, m) at l.invariant.1))
 
 pub returns-else-may_follow : goal.returns-else-may_follow
 returns-else-may_follow c =
     let long : length c.args.r.places ≡ most_blocks =
-    sym (length-map c.args.r.places _) ∙ c.well-formed.0.1.1.1.1.0.1.0.1 in
+    c.well_formed.0.1.1.1.1.0.1.0.1 in
     let s = c in
     let l = c.loop-j in
     let r = s.args.r in
     let n = r.count in
     let h : n ≤ length r.places = omega (arith, long) in
     let d = c in
-    let f : valid_block (block_at r l.j) ≡ true = tested (block_at r l.j) d.level_of_lem.result d.in_range.result d.in_order.result true d.level_of_lem.ensures d.in_range.ensures d.in_order.ensures c.if-level_of-in_range.true in
+    let f : valid_block (block_at r l.j) ≡ true = tested (block_at r l.j) d.level_of.result d.in_range.result d.in_order.result true d.level_of.ensures d.in_range.ensures d.in_order.ensures c.if-level_of-in_range.true in
     let m : may_follow (take l.j (all_blocks r)) (block_at r l.j) ≡ false = sym c.may_follow.ensures ∙ c.if-may_follow.false in
     let w : false ≡ well_formed [] (take n (all_blocks r)) = rw (walk_more r l.j n (omega arith) h, f, m) at l.invariant.1 in
     walk_fails r w
@@ -77,14 +77,14 @@ returns-else-may_follow c =
 pub returns-else-level_of-in_range : goal.returns-else-level_of-in_range
 returns-else-level_of-in_range c =
     let long : length c.args.r.places ≡ most_blocks =
-    sym (length-map c.args.r.places _) ∙ c.well-formed.0.1.1.1.1.0.1.0.1 in
+    c.well_formed.0.1.1.1.1.0.1.0.1 in
     let s = c in
     let l = c.loop-j in
     let r = s.args.r in
     let n = r.count in
     let h : n ≤ length r.places = omega (arith, long) in
     let d = c in
-    let f : valid_block (block_at r l.j) ≡ false = tested (block_at r l.j) d.level_of_lem.result d.in_range.result d.in_order.result false d.level_of_lem.ensures d.in_range.ensures d.in_order.ensures c.if-level_of-in_range.false in
+    let f : valid_block (block_at r l.j) ≡ false = tested (block_at r l.j) d.level_of.result d.in_range.result d.in_order.result false d.level_of.ensures d.in_range.ensures d.in_order.ensures c.if-level_of-in_range.false in
     let w : false ≡ well_formed [] (take n (all_blocks r)) = rw (walk_more r l.j n (omega arith) h, f) at l.invariant.1 in
     walk_fails r w
 
@@ -97,7 +97,7 @@ pub loop-k-preserved : goal.loop-k-preserved
 unfolding every
 loop-k-preserved c =
     let long : length c.args.r.places ≡ most_blocks =
-    sym (length-map c.args.r.places _) ∙ c.well-formed.0.1.1.1.1.0.1.0.1 in
+    c.well_formed.0.1.1.1.1.0.1.0.1 in
     let s = c in
     let l = c.loop-k in
     let h : l.k < length s.args.r.places = omega (arith, long) in
@@ -108,7 +108,7 @@ pub returns-else-level_of-eq0 : goal.returns-else-level_of-eq0
 unfolding every
 returns-else-level_of-eq0 c =
     let long : length c.args.r.places ≡ most_blocks =
-    sym (length-map c.args.r.places _) ∙ c.well-formed.0.1.1.1.1.0.1.0.1 in
+    c.well_formed.0.1.1.1.1.0.1.0.1 in
     let s = c in
     let l = c.loop-k in
     let r = s.args.r in
@@ -125,7 +125,7 @@ returns c =
     let e : c.loop-j.j ≡ n = omega arith in
     rw (e, slice_empty n) at c.loop-j.invariant.1 in
     let long : length c.args.r.places ≡ most_blocks =
-    sym (length-map c.args.r.places _) ∙ c.well-formed.0.1.1.1.1.0.1.0.1 in
+    c.well_formed.0.1.1.1.1.0.1.0.1 in
     let s = c in
     let l = c.loop-k in
     let r = s.args.r in

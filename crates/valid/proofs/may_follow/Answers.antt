@@ -35,22 +35,22 @@ unfolding many targets
 loop-j-init c = (omega arith, omega arith, refl, sym (new_target_none [] c.args.b refl))
 
 pub overflow_add-seen : goal.overflow_add-seen
-overflow_add-seen c = omega (arith, byte (eqb c.level_of.result c.level_of_lem.result))
+overflow_add-seen c = omega (arith, byte (eqb c.level_of.result c.level_of-l.result))
 
 pub loop-j-preserved : goal.loop-j-preserved
 loop-j-preserved c =
     let long : length c.args.r.places ≡ most_blocks =
-    sym (length-map c.args.r.places _) ∙ c.well-formed.0.1.1.1.1.0.1.0.1 in
+    c.well_formed.0.1.1.1.1.0.1.0.1 in
     let s = c in
     let l = c.loop-j in
     let r = s.args.r in
     let b = s.args.b in
     let a = block_at r l.j in
-    let t = eqb c.level_of.result s.level_of_lem.result in
+    let t = eqb c.level_of.result s.level_of-l.result in
     let h : l.j < length r.places = omega (arith, long) in (
       omega arith,
       omega (arith, byte t),
-      rw (take_more r l.j h) (counted s.level_of_lem.result c.level_of.result l.seen (take l.j (all_blocks r)) a c.level_of.ensures l.invariant.2),
+      rw (take_more r l.j h) (counted s.level_of-l.result c.level_of.result l.seen (take l.j (all_blocks r)) a c.level_of.ensures l.invariant.2),
       rw (take_more r l.j h) (met_more l.met c.same_target-met.result (take l.j (all_blocks r)) a b c.same_target-met.ensures l.invariant.3),
     )
 
@@ -60,4 +60,4 @@ returns c =
     let s = c in
     let l = c.loop-j in
     let e : l.j ≡ s.args.n = omega arith in
-    rw (c.most_of.ensures, l.invariant.2, l.invariant.3, s.level_of_lem.ensures, e)
+    rw (c.most_of.ensures, l.invariant.2, l.invariant.3, s.level_of-l.ensures, e)

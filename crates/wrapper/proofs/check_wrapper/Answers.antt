@@ -30,14 +30,14 @@ pub returns-then-byte-due : goal.returns-then-byte-due
 returns-then-byte-due c =
     let l = c.loop-i in
     let s = c.args.input.now in
-    let due = c.wrapper_byte_lem.ensures in
+    let due = c.wrapper_byte-due.ensures in
     rw (c.range.ensures, due) (differs s l.i (omega arith) (omega arith) (c.type_inv.input l.i).fits (λ e. c.if-byte-due.true (e ∙ sym due)) ∙ l.invariant.1)
 
 pub loop-i-preserved : goal.loop-i-preserved
 loop-i-preserved c =
     let l = c.loop-i in
     let s = c.args.input.now in
-    (omega arith, sym (agrees s l.i (omega arith) (omega arith) (c.type_inv.input l.i).fits (c.if-byte-due.false ∙ c.wrapper_byte_lem.ensures)) ∙ l.invariant.1)
+    (omega arith, sym (agrees s l.i (omega arith) (omega arith) (c.type_inv.input l.i).fits (c.if-byte-due.false ∙ c.wrapper_byte-due.ensures)) ∙ l.invariant.1)
 
 pub returns : goal.returns
 unfolding wrapper_table read

@@ -20,7 +20,7 @@ pub returns-then-out-lt-WRAPPER_BYTES : goal.returns-then-out-lt-WRAPPER_BYTES
 returns-then-out-lt-WRAPPER_BYTES c =
     let both = let s = c in
     let x = no_room (payload s.args.r) (valid s.args.r) s.args.out.now c.if-out-lt-WRAPPER_BYTES.true in
-    (c.without_room.ensures ∙ ap without_room c.is_valid_lem.ensures ∙ x.0, x.1) in record { result = both.0; buffer = both.1 }
+    (c.without_room.ensures ∙ ap without_room c.is_valid.ensures ∙ x.0, x.1) in record { result = both.0; buffer = both.1 }
 
 pub returns-then-data-ne0 : goal.returns-then-data-ne0
 returns-then-data-ne0 c =

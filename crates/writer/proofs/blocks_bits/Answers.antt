@@ -16,18 +16,18 @@ unfolding sum_of_widths blocks_elements
 loop-j-init c = (omega arith, refl, omega arith)
 
 pub overflow_add-sum : goal.overflow_add-sum
-overflow_add-sum c = omega (arith, c.block_bits_lem.ensures)
+overflow_add-sum c = omega (arith, c.block_bits-sum.ensures)
 
 pub loop-j-preserved : goal.loop-j-preserved
 loop-j-preserved c =
     let long : length c.args.r.places ≡ most_blocks =
-    sym (length-map c.args.r.places _) ∙ c.well-formed.0.1.1.1.1.0.1.0.1 in
+    c.well_formed.0.1.1.1.1.0.1.0.1 in
     let s = c in
     let l = c.loop-j in
     let b = block_at s.args.r l.j in
     let h : l.j < length s.args.r.places = omega (arith, long) in
-    let w : c.block_bits_lem.result ≡ sum_of_widths (block_elements b) = c.block_bits_lem.ensures.0 ∙ rw c.level_of_lem.ensures (sym (block-width b)) in
-    (omega arith, omega (arith, w, widths_more s.args.r l.j h), omega (arith, c.block_bits_lem.ensures.1))
+    let w : c.block_bits-sum.result ≡ sum_of_widths (block_elements b) = c.block_bits-sum.ensures.0 ∙ rw c.level_of.ensures (sym (block-width b)) in
+    (omega arith, omega (arith, w, widths_more s.args.r l.j h), omega (arith, c.block_bits-sum.ensures.1))
 
 pub returns : goal.returns
 returns c =

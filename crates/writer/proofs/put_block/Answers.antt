@@ -19,14 +19,14 @@ use Rattle.writer.proofs.put_block.Goals as goal
 pub put_ue-p-requires : goal.put_ue-p-requires
 put_ue-p-requires c =
     let length-is : c.bytes_of-bytes.result ≡ (level (level_of c.args.b)).bytes =
-    c.bytes_of-bytes.ensures ∙ ap (λ l. (level l).bytes) c.level_of_lem.ensures in
+    c.bytes_of-bytes.ensures ∙ ap (λ l. (level l).bytes) c.level_of-l.ensures in
     let s = c in
     rw (length-is) (s.requires.0, omega (arith, s.requires.1, block_parts s.args.b), omega (arith, bytes_small (level_of s.args.b)))
 
 pub put_u-q-requires : goal.put_u-q-requires
 put_u-q-requires c =
     let length-is : c.bytes_of-bytes.result ≡ (level (level_of c.args.b)).bytes =
-    c.bytes_of-bytes.ensures ∙ ap (λ l. (level l).bytes) c.level_of_lem.ensures in
+    c.bytes_of-bytes.ensures ∙ ap (λ l. (level l).bytes) c.level_of-l.ensures in
     let s = c in
     let length-put = rw (length-is) at c.put_ue-p.ensures in
     (length-put.sound, room_left length-put 8 (omega (arith, s.requires.1, block_parts s.args.b)), omega arith)
@@ -34,11 +34,11 @@ put_u-q-requires c =
 pub put_fields-w-requires : goal.put_fields-w-requires
 put_fields-w-requires c =
     let length-is : c.bytes_of-bytes.result ≡ (level (level_of c.args.b)).bytes =
-    c.bytes_of-bytes.ensures ∙ ap (λ l. (level l).bytes) c.level_of_lem.ensures in
+    c.bytes_of-bytes.ensures ∙ ap (λ l. (level l).bytes) c.level_of-l.ensures in
     let s = c in
     let b = s.args.b in
     let length-put = rw (length-is) at c.put_ue-p.ensures in
-    let level-put = rw c.level_of_lem.ensures at c.put_u-q.ensures in
+    let level-put = rw c.level_of-l.ensures at c.put_u-q.ensures in
     let both = wrote_then length-put level-put in
     let l = length-append (ue_code (level (level_of b)).bytes) (code 8 (level_of b)) in
     (both.sound, room_left both (total_width (codings (level_of b))) (omega (arith, s.requires.1, block_parts b, l, length-code 8 (level_of b))), s.requires.2)
@@ -46,13 +46,13 @@ put_fields-w-requires c =
 pub put_zeros-requires : goal.put_zeros-requires
 put_zeros-requires c =
     let length-is : c.bytes_of-bytes.result ≡ (level (level_of c.args.b)).bytes =
-    c.bytes_of-bytes.ensures ∙ ap (λ l. (level l).bytes) c.level_of_lem.ensures in
+    c.bytes_of-bytes.ensures ∙ ap (λ l. (level l).bytes) c.level_of-l.ensures in
     let zeros-are : c.padding_of-zeros.result ≡ padding (level_of c.args.b) =
-    c.padding_of-zeros.ensures ∙ ap padding c.level_of_lem.ensures in
+    c.padding_of-zeros.ensures ∙ ap padding c.level_of-l.ensures in
     let s = c in
     let b = s.args.b in
     let length-put = rw (length-is) at c.put_ue-p.ensures in
-    let level-put = rw c.level_of_lem.ensures at c.put_u-q.ensures in
+    let level-put = rw c.level_of-l.ensures at c.put_u-q.ensures in
     let all = wrote_then (wrote_then length-put level-put) c.put_fields-w.ensures in
     let k = length-append (ue_code (level (level_of b)).bytes ++ code 8 (level_of b)) (fields_code (codings (level_of b)) (values_of b)) in
     let l = length-append (ue_code (level (level_of b)).bytes) (code 8 (level_of b)) in
@@ -65,11 +65,11 @@ put_zeros-requires c =
 pub returns : goal.returns
 returns c =
     let length-is : c.bytes_of-bytes.result ≡ (level (level_of c.args.b)).bytes =
-    c.bytes_of-bytes.ensures ∙ ap (λ l. (level l).bytes) c.level_of_lem.ensures in
+    c.bytes_of-bytes.ensures ∙ ap (λ l. (level l).bytes) c.level_of-l.ensures in
     let zeros-are : c.padding_of-zeros.result ≡ padding (level_of c.args.b) =
-    c.padding_of-zeros.ensures ∙ ap padding c.level_of_lem.ensures in
+    c.padding_of-zeros.ensures ∙ ap padding c.level_of-l.ensures in
     let b = c.args.b in
     let length-put = rw (length-is) at c.put_ue-p.ensures in
-    let level-put = rw c.level_of_lem.ensures at c.put_u-q.ensures in
+    let level-put = rw c.level_of-l.ensures at c.put_u-q.ensures in
     let zeros-put = rw (zeros-are) at c.put_zeros.ensures in
     rw (block_bits_lem b) (wrote_then length-put (wrote_then level-put (wrote_then c.put_fields-w.ensures zeros-put)))

@@ -21,25 +21,25 @@ loop-j-init c = let s = c in (omega arith, wrote_none s.args.out.now s.args.pen 
 pub overflow_cast-place : goal.overflow_cast-place
 overflow_cast-place c =
     let long : (length c.args.r.places ≡ most_blocks) × (c.args.r.count ≤ most_blocks) =
-    (sym (length-map c.args.r.places _) ∙ c.well-formed.1.1.0.1.1.1.1.0.1.0.1, (valid_means c.args.r c.requires.2).few) in
+    (c.well_formed.1.1.0.1.1.1.1.0.1.0.1, (valid_means c.args.r c.requires.2).few) in
     let l = long in omega arith
 
 pub offset_bounds-r-j : goal.offset_bounds-r-j
 offset_bounds-r-j c =
     let long : (length c.args.r.places ≡ most_blocks) × (c.args.r.count ≤ most_blocks) =
-    (sym (length-map c.args.r.places _) ∙ c.well-formed.1.1.0.1.1.1.1.0.1.0.1, (valid_means c.args.r c.requires.2).few) in
+    (c.well_formed.1.1.0.1.1.1.1.0.1.0.1, (valid_means c.args.r c.requires.2).few) in
     let l = long in omega (arith, l)
 
 pub bounds-r-j : goal.bounds-r-j
 bounds-r-j c =
     let long : (length c.args.r.places ≡ most_blocks) × (c.args.r.count ≤ most_blocks) =
-    (sym (length-map c.args.r.places _) ∙ c.well-formed.1.1.0.1.1.1.1.0.1.0.1, (valid_means c.args.r c.requires.2).few) in
+    (c.well_formed.1.1.0.1.1.1.1.0.1.0.1, (valid_means c.args.r c.requires.2).few) in
     omega (arith, long)
 
 pub put_block-p-requires : goal.put_block-p-requires
 put_block-p-requires c =
     let long : (length c.args.r.places ≡ most_blocks) × (c.args.r.count ≤ most_blocks) =
-    (sym (length-map c.args.r.places _) ∙ c.well-formed.1.1.0.1.1.1.1.0.1.0.1, (valid_means c.args.r c.requires.2).few) in
+    (c.well_formed.1.1.0.1.1.1.1.0.1.0.1, (valid_means c.args.r c.requires.2).few) in
     let s = c in
     let l = c.loop-j in
     let r = s.args.r in
@@ -54,13 +54,13 @@ put_block-p-requires c =
 pub overflow_add-j : goal.overflow_add-j
 overflow_add-j c =
     let long : (length c.args.r.places ≡ most_blocks) × (c.args.r.count ≤ most_blocks) =
-    (sym (length-map c.args.r.places _) ∙ c.well-formed.1.1.0.1.1.1.1.0.1.0.1, (valid_means c.args.r c.requires.2).few) in
+    (c.well_formed.1.1.0.1.1.1.1.0.1.0.1, (valid_means c.args.r c.requires.2).few) in
     omega (arith, long)
 
 pub loop-j-preserved : goal.loop-j-preserved
 loop-j-preserved c =
     let long : (length c.args.r.places ≡ most_blocks) × (c.args.r.count ≤ most_blocks) =
-    (sym (length-map c.args.r.places _) ∙ c.well-formed.1.1.0.1.1.1.1.0.1.0.1, (valid_means c.args.r c.requires.2).few) in
+    (c.well_formed.1.1.0.1.1.1.1.0.1.0.1, (valid_means c.args.r c.requires.2).few) in
     let s = c in
     let l = c.loop-j in
     let r = s.args.r in

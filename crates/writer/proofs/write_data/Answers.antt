@@ -19,27 +19,27 @@ use Rattle.writer.proofs.write_data.Goals as goal
 pub bytes_needed-n-requires : goal.bytes_needed-n-requires
 bytes_needed-n-requires c =
     let judged : valid c.args.r ≡ true =
-    sym c.is_valid_lem.ensures ∙ c.if-is_valid.true in
+    sym c.is_valid.ensures ∙ c.if-is_valid.true in
     (valid_means c.args.r (judged)).few
 
 pub returns-then-out-n : goal.returns-then-out-n
 returns-then-out-n c =
     let judged : valid c.args.r ≡ true =
-    sym c.is_valid_lem.ensures ∙ c.if-is_valid.true in
+    sym c.is_valid.ensures ∙ c.if-is_valid.true in
     let both = let s = c in
     short (payload s.args.r) (valid s.args.r) s.args.out.now (judged) (omega (arith, c.bytes_needed-n.ensures)) in record { result = both.0; buffer = both.1 }
 
 pub put_payload-requires : goal.put_payload-requires
 put_payload-requires c =
     let judged : valid c.args.r ≡ true =
-    sym c.is_valid_lem.ensures ∙ c.if-is_valid.true in
+    sym c.is_valid.ensures ∙ c.if-is_valid.true in
     let s = c in
     (omega (arith, c.bytes_needed-n.ensures, bits_of_bytes s.args.r), judged)
 
 pub returns-else-out-n : goal.returns-else-out-n
 returns-else-out-n c =
     let judged : valid c.args.r ≡ true =
-    sym c.is_valid_lem.ensures ∙ c.if-is_valid.true in
+    sym c.is_valid.ensures ∙ c.if-is_valid.true in
     let both = let s = c in
     let r = s.args.r in
     let n = c.bytes_needed-n.ensures in
@@ -53,4 +53,4 @@ returns-else-out-n c =
 pub returns-else-is_valid : goal.returns-else-is_valid
 returns-else-is_valid c =
     let both = let s = c in
-    bad (payload s.args.r) (valid s.args.r) s.args.out.now (sym c.is_valid_lem.ensures ∙ c.if-is_valid.false) in record { result = both.0; buffer = both.1 }
+    bad (payload s.args.r) (valid s.args.r) s.args.out.now (sym c.is_valid.ensures ∙ c.if-is_valid.false) in record { result = both.0; buffer = both.1 }
