@@ -308,7 +308,7 @@ def convert(fn, text):
                 short = re.sub(r"^(overflow|nonzero)_", "", need)
                 new = fn.needs.get(short)
             e = re.match(rf"{re.escape(name)}\s+({ID})((?:\s+(?!=\s){ID})*)\s+=\s+(.*)$", eq, re.S)
-            if e and trivial(e.group(3)):
+            if e and trivial(e.group(3)) and not d["unfolding"]:
                 continue
             if new is None:
                 fn.notes.append(f"goal {need} has no name today")

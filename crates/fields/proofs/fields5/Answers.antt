@@ -11,7 +11,7 @@ unfolding total_width
 returns-then-s-at c =
     let whole = c in
     let a = whole.args in
-    c.refuse_cut.ensures ∙ rw (c.name5.ensures, whole.Whole-Fields.ensures.0) (fields_refused 5 a.s.now a.at 13 (omega arith) _ _ refl (refl, (refl, (refl, tt))) (omega arith) (omega arith))
+    c.refuse_cut.ensures ∙ rw (c.name5.ensures, whole.whole_fields-k.ensures.0) (fields_refused 5 a.s.now a.at 13 (omega arith) _ _ refl (refl, (refl, (refl, tt))) (omega arith) (omega arith))
 
 pub returns : goal.returns
 unfolding total_width

@@ -56,7 +56,7 @@ returns-then-level-eq2 c =
     (field_is (number_at l 4) c.unsigned-then-level-eq2-4.result (record { sfits = c.unsigned-arg-then-level-eq2-4-1.given }) c.unsigned-then-level-eq2-4.ensures)
     (field_is (number_at l 5) c.unsigned-then-level-eq2-5.result (record { sfits = c.unsigned-arg-then-level-eq2-5-1.given }) c.unsigned-then-level-eq2-5.ensures)
     (field_is (number_at l 6) c.unsigned-then-level-eq2-6.result (record { sfits = c.unsigned-arg-then-level-eq2-6-1.given }) c.unsigned-then-level-eq2-6.ensures)
-    (weight_is (number_at l 7) c.signed.result (record { sfits = c.signed-arg-1.given }) (record { sfits = c.signed.type-inv }) c.signed.ensures)
+    (weight_is (number_at l 7) c.signed.result (record { sfits = c.signed-arg-1.given }) (record { sfits = c.signed.type_inv }) c.signed.ensures)
 
 pub returns-then-level-eq5 : goal.returns-then-level-eq5
 returns-then-level-eq5 c =

@@ -31,7 +31,7 @@ loop-i-init c =
     let count : c.byte-count.result ≡ unsigned_in 8 y = c.byte-count.ensures ∙ ap (unsigned_in 8) (to_z-of_z w32 y g) in (
       omega arith,
       rw (c.without_blocks-r.ensures, count, flag_is l x y f g long first second, second),
-      ap (λ (t : Bool). s.args.beside && t) (head_is l x y f g long first second c.byte-count.result c.byte-count.type-inv count ∙ sym (and-true (names_head l))),
+      ap (λ (t : Bool). s.args.beside && t) (head_is l x y f g long first second c.byte-count.result c.byte-count.type_inv count ∙ sym (and-true (names_head l))),
     )
 
 pub loop-i-preserved : goal.loop-i-preserved

@@ -32,24 +32,6 @@ slice_bounds-put_text-count c =
     c.start_of-start.ensures ∙ ap (λ (k : ℕ). get_or starts k 0) c.number_of-k.ensures in
     let d = c in omega (arith, (stands d.args.e).begins, next-at, begins_at)
 
-pub LOST-slice_bounds_put_text_start : goal.LOST-slice_bounds_put_text_start
-unfolding ascii
-LOST-slice_bounds_put_text_start c =
-    let next-at : c.start_of-end.result ≡ get_or starts (number_of c.args.e + 1) 0 =
-    c.start_of-end.ensures ∙ ap (λ (k : ℕ). get_or starts (k + 1) 0) c.number_of-k.ensures in
-    let begins_at : c.start_of-start.result ≡ get_or starts (number_of c.args.e) 0 =
-    c.start_of-start.ensures ∙ ap (λ (k : ℕ). get_or starts k 0) c.number_of-k.ensures in
-    let d = c in let w = stands d.args.e in omega (arith, w.begins, w.ends, next-at, begins_at)
-
-pub LOST-slice_bounds_put_text_end : goal.LOST-slice_bounds_put_text_end
-unfolding ascii
-LOST-slice_bounds_put_text_end c =
-    let next-at : c.start_of-end.result ≡ get_or starts (number_of c.args.e + 1) 0 =
-    c.start_of-end.ensures ∙ ap (λ (k : ℕ). get_or starts (k + 1) 0) c.number_of-k.ensures in
-    let begins_at : c.start_of-start.result ≡ get_or starts (number_of c.args.e) 0 =
-    c.start_of-start.ensures ∙ ap (λ (k : ℕ). get_or starts k 0) c.number_of-k.ensures in
-    let d = c in let w = stands d.args.e in omega (arith, w.begins, w.ends, next-at, begins_at)
-
 pub put_text-requires : goal.put_text-requires
 unfolding ascii
 put_text-requires c =
