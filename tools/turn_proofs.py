@@ -64,15 +64,15 @@ class Function:
                 key = f".{comps[0]} .{rest[0]}"
                 if key in self.args:
                     rest = [self.args[key].split(".")[-1]] + rest[1:]
+                elif s in ("args", "ranges"):
+                    rest = [norm(rest[0])] + rest[1:]
             if comps[0] == "requires" and self.labels["requires"] and rest and rest[0].isdigit():
                 rest = [self.labels["requires"][int(rest[0])]] + rest[1:]
             return [comps[0]] + rest
         for path, arm, new in sorted(self.arms.get(s, ()), key=lambda r: -len(r[0])):
             if rest[: len(path)] == path and path:
                 return [arm, new] + self.after(s, new, rest[len(path) :])
-        if s in self.arms and rest == ["given"]:
-            return [self.arms[s][0][1]]
-        if s in self.arms and not rest:
+        if any(path[: len(rest)] == rest for path, _, _ in self.arms.get(s, ())):
             return [self.arms[s][0][1]]
         if s in self.typed and rest and rest[0] == "given":
             vs = self.typed[s]
@@ -322,7 +322,7 @@ def convert(fn, text):
             pre, unf = wrap(used, body)
             unfolding = []
             for u in ([d["unfolding"]] if d["unfolding"] else []) + unf:
-                unfolding += [w for w in u.split()[1:] if w not in unfolding]
+                unfolding += [w for w in u.split()[1:] if w not in unfolding and w not in helpers]
             labels = fn.labels["ensures"]
             if new.startswith("returns") and len(labels) > 1:
                 b = body.strip()

@@ -12,7 +12,7 @@ use Rattle.record.specs.Name.{ext_dm_alignment_zero_bit}
 use Rattle.record.specs.Level.{padding}
 use Rattle.syntax.specs.Data.{kept}
 use Rattle.block.specs.Parts.{after_fields}
-use Rattle.block.proofs.Laws.{first_told, ordered, in_order, out_of_order, read_closing}
+use Rattle.block.proofs.Laws.{first_told, ordered, in_order_lem, out_of_order, read_closing}
 use borrow.Author.Rules.{rules}
 use Rattle.block.proofs.after_fields.Goals as goal
 
@@ -43,7 +43,7 @@ returns-then-in_order c =
     spans_ok (read (zero_bits ext_dm_alignment_zero_bit (padding a.level)) a.at l) v n (e ∙ named_zeros ext_dm_alignment_zero_bit (padding a.level) a.at l) in
     let d = c in
     let a = d.args in
-    in_order a.start a.level a.block a.at (bits_of a.s.now) d.in-Is.width (first) (sym c.in_order.ensures ∙ c.if-in_order.true)
+    in_order_lem a.start a.level a.block a.at (bits_of a.s.now) d.in-Is.width (first) (sym c.in_order.ensures ∙ c.if-in_order.true)
 
 pub returns-else-in_order : goal.returns-else-in_order
 returns-else-in_order c =

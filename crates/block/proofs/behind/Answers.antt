@@ -8,17 +8,17 @@ use Rattle.block.proofs.behind.Goals as goal
 pub overflow_add-result : goal.overflow_add-result
 overflow_add-result c =
     let s = c in
-    let g = c.rest-in-Passed-1.given.0 in
-    let e : s.args.rest ≡ Passed c.in-Passed.width = cc in
-    let h : s.args.n + c.in-Passed.width < 2 ^ 64 = rw e at s.requires in
+    let g = c.in-Passed in
+    let e : s.args.rest ≡ Passed g.width = cc in
+    let h : s.args.n + g.width < 2 ^ 64 = rw e at s.requires in
     record { fits = h }
 
 pub overflow_add-result-in-Kept : goal.overflow_add-result-in-Kept
 overflow_add-result-in-Kept c =
     let s = c in
-    let g = c.rest-in-Kept-1.given.0 in
-    let e : s.args.rest ≡ Kept c.in-Kept.width c.in-Kept.block = cc in
-    let h : s.args.n + c.in-Kept.width < 2 ^ 64 = rw e at s.requires in
+    let g = c.in-Kept in
+    let e : s.args.rest ≡ Kept g.width g.block = cc in
+    let h : s.args.n + g.width < 2 ^ 64 = rw e at s.requires in
     record { fits = h }
 
 pub returns-in-Refused : goal.returns-in-Refused
@@ -36,6 +36,6 @@ returns-in-Passed c =
 pub returns-in-Kept : goal.returns-in-Kept
 returns-in-Kept c =
     let s = c in
-    let g = c.rest-in-Kept-1.given.0 in
-    let e : s.args.rest ≡ Kept c.in-Kept.width c.in-Kept.block = cc in
+    let g = c.in-Kept in
+    let e : s.args.rest ≡ Kept g.width g.block = cc in
     rw e

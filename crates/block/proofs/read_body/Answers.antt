@@ -11,25 +11,25 @@ returns-then-size-bytes c =
     let b = c in
     let a = b.args in
     c.read_content.ensures
-    ∙ body_is a.start a.size a.level a.at (drop a.at (bits_of a.s.now)) (sym b.is_Known.ensures ∙ c.if-known.true) (c.if-size-bytes.true ∙ b.bytes_of-bytes.ensures)
+    ∙ body_is a.start a.size a.level a.at (drop a.at (bits_of a.s.now)) (sym b.is_known-known.ensures ∙ c.if-known.true) (c.if-size-bytes.true ∙ b.bytes_of-bytes.ensures)
 
 pub returns-else-size-bytes : goal.returns-else-size-bytes
 returns-else-size-bytes c =
     let b = c in
     let a = b.args in
     c.refuse.ensures
-    ∙ body-length a.start a.size a.level a.at (drop a.at (bits_of a.s.now)) (sym b.is_Known.ensures ∙ c.if-known.true) (λ e. c.if-size-bytes.false (e ∙ sym b.bytes_of-bytes.ensures))
+    ∙ body-length a.start a.size a.level a.at (drop a.at (bits_of a.s.now)) (sym b.is_known-known.ensures ∙ c.if-known.true) (λ e. c.if-size-bytes.false (e ∙ sym b.bytes_of-bytes.ensures))
 
 pub returns-then-size-le-MOST_RESERVED : goal.returns-then-size-le-MOST_RESERVED
 returns-then-size-le-MOST_RESERVED c =
     let b = c in
     let a = b.args in
     c.skip.ensures a.level
-    ∙ body-reserved a.start a.size a.level a.at (drop a.at (bits_of a.s.now)) (sym b.is_Known.ensures ∙ c.if-known.false) c.if-size-le-MOST_RESERVED.true
+    ∙ body-reserved a.start a.size a.level a.at (drop a.at (bits_of a.s.now)) (sym b.is_known-known.ensures ∙ c.if-known.false) c.if-size-le-MOST_RESERVED.true
 
 pub returns-else-size-le-MOST_RESERVED : goal.returns-else-size-le-MOST_RESERVED
 returns-else-size-le-MOST_RESERVED c =
     let b = c in
     let a = b.args in
     c.refuse-else-size-le-MOST_RESERVED.ensures
-    ∙ body_too_long a.start a.size a.level a.at (drop a.at (bits_of a.s.now)) (sym b.is_Known.ensures ∙ c.if-known.false) c.if-size-le-MOST_RESERVED.false
+    ∙ body_too_long a.start a.size a.level a.at (drop a.at (bits_of a.s.now)) (sym b.is_known-known.ensures ∙ c.if-known.false) c.if-size-le-MOST_RESERVED.false

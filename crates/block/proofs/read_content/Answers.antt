@@ -17,7 +17,6 @@ use borrow.Author.Rules.{rules}
 use Rattle.block.proofs.read_content.Goals as goal
 
 pub overflow_add-at : goal.overflow_add-at
-unfolding fieldsRead
 overflow_add-at c =
     let fieldsRead : Out Name Block =
     mapped (block_of c.args.level) (read (row (fields_of c.args.level)) c.args.at (drop c.args.at (bits_of c.args.s.now))) in
@@ -30,7 +29,6 @@ overflow_add-at c =
     let f = first in omega (arith, f.1)
 
 pub after_fields-requires : goal.after_fields-requires
-unfolding fieldsRead
 after_fields-requires c =
     let fieldsRead : Out Name Block =
     mapped (block_of c.args.level) (read (row (fields_of c.args.level)) c.args.at (drop c.args.at (bits_of c.args.s.now))) in
@@ -43,7 +41,6 @@ after_fields-requires c =
     let f = first in let s = c in (s.requires.0, omega (arith, f.1))
 
 pub behind-requires : goal.behind-requires
-unfolding fieldsRead
 behind-requires c =
     let fieldsRead : Out Name Block =
     mapped (block_of c.args.level) (read (row (fields_of c.args.level)) c.args.at (drop c.args.at (bits_of c.args.s.now))) in
@@ -61,7 +58,6 @@ behind-requires c =
     omega (arith, f.1, few)
 
 pub returns-in-Refused : goal.returns-in-Refused
-unfolding fieldsRead
 returns-in-Refused c =
     let fieldsRead : Out Name Block =
     mapped (block_of c.args.level) (read (row (fields_of c.args.level)) c.args.at (drop c.args.at (bits_of c.args.s.now))) in
@@ -74,7 +70,6 @@ returns-in-Refused c =
     first_no (content_from s.args.start s.args.level) (fieldsRead) (after_fields s.args.start s.args.level) s.args.at B (read_fields s.args.start s.args.level s.args.at l) k x w (step_no (fieldsRead) k x w (sym c.in-Refused.is ∙ c.fields_of.ensures))
 
 pub returns-in-Is : goal.returns-in-Is
-unfolding fieldsRead
 returns-in-Is c =
     let fieldsRead : Out Name Block =
     mapped (block_of c.args.level) (read (row (fields_of c.args.level)) c.args.at (drop c.args.at (bits_of c.args.s.now))) in

@@ -9,9 +9,9 @@ use Rattle.head.proofs.behind.Goals as goal
 pub overflow_add-result : goal.overflow_add-result
 overflow_add-result c =
     let s = c in
-    let g = c.rest-in-Is-1.given.0 in
-    let e : s.args.rest ≡ Is c.in-Is.refresh c.in-Is.count c.in-Is.width = cc in
-    let h : s.args.n + c.in-Is.width < 2 ^ 64 = rw e at s.requires in
+    let g = c.in-Is in
+    let e : s.args.rest ≡ Is g.refresh g.count g.width = cc in
+    let h : s.args.n + g.width < 2 ^ 64 = rw e at s.requires in
     record { fits = h }
 
 pub returns-in-Refused : goal.returns-in-Refused
@@ -23,6 +23,6 @@ returns-in-Refused c =
 pub returns-in-Is : goal.returns-in-Is
 returns-in-Is c =
     let s = c in
-    let g = c.rest-in-Is-1.given.0 in
-    let e : s.args.rest ≡ Is c.in-Is.refresh c.in-Is.count c.in-Is.width = cc in
+    let g = c.in-Is in
+    let e : s.args.rest ≡ Is g.refresh g.count g.width = cc in
     rw e

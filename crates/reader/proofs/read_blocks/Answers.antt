@@ -12,7 +12,7 @@ use Rattle.met.specs.Met.{most_targets}
 use Rattle.syntax.specs.Data.{most_announced, announced}
 use Rattle.head.proofs.Laws.{opening_few}
 use Rattle.reader.specs.Reading.{summary, end_from}
-use Rattle.reader.proofs.Laws.{Reached, reached_none, reached_few, reached_counted, reached_all, reached_no, reached_past, reached_range, reached_repeated, reached_room, reached_more, blocks_from, told_on, end_told, end_there, no_blocks, no_end, at_the_end}
+use Rattle.reader.proofs.Laws.{Reached, reached_none, reached_few, reached_counted, reached_all, reached_no, reached_past, reached_range, reached_repeated, reached_room, reached_more, blocks_from, told_on, end_told, end_there, no_blocks_lem, no_end, at_the_end}
 use borrow.Author.Rules.{rules}
 use Rattle.reader.proofs.read_blocks.Goals as goal
 
@@ -45,7 +45,7 @@ refused-requires c =
     let g = c.in-Refused in
     told_on (bits_of a.s.now) (blocks_from (announced a.refresh a.n) a.start (drop a.start (bits_of a.s.now))) g.number g.element g.offset
     (reached_no a.refresh (bits_of a.s.now) a.start a.n l.r l.seen l.targets l.width l.skipped l.i l.invariant (omega arith) g.number g.element g.offset (sym g.is ∙ c.read_block.ensures))
-    (no_blocks (bits_of a.s.now) (announced a.refresh a.n) a.start s.requires)
+    (no_blocks_lem (bits_of a.s.now) (announced a.refresh a.n) a.start s.requires)
 
 pub overflow_add-skipped : goal.overflow_add-skipped
 overflow_add-skipped c =
@@ -203,7 +203,7 @@ refused-requires-else-admits c =
     let d = c in
     told_on (bits_of a.s.now) (blocks_from (announced a.refresh a.n) a.start (drop a.start (bits_of a.s.now))) c.repeat_of-number.result c.repeated.result (a.start + l.width)
     (reached_repeated a.refresh (bits_of a.s.now) a.start a.n l.r l.seen l.targets l.width l.skipped l.i l.invariant (inside) g.block g.m (sym g.is ∙ c.read_block.ensures) d.admits.result d.admits.ensures d.if-admits.false c.repeat_of-number.result c.repeat_of-number.ensures c.repeated.result c.repeated.ensures)
-    (no_blocks (bits_of a.s.now) (announced a.refresh a.n) a.start s.requires)
+    (no_blocks_lem (bits_of a.s.now) (announced a.refresh a.n) a.start s.requires)
 
 pub overflow_add-start-2 : goal.overflow_add-start-2
 overflow_add-start-2 c =

@@ -32,37 +32,36 @@ put_trims-p-requires c =
     (s.requires.0, omega (arith, r))
 
 pub overflow_cast-ms_weight : goal.overflow_cast-ms_weight
-unfolding weight
 overflow_cast-ms_weight c =
     let weight : ℤ =
     c.in-Level2.ms_weight in
     let same-weight : to_z w16 (of_z w16 (weight)) ≡ weight =
     search rules in
     let held : (holds (signed 13) (weight) ≡ true) × (mag (weight) < 4096) =
-    let g = c.b-in-Level2-1.given.0 in
-    weight_held c.in-Level2.target_max_pq c.in-Level2.trim_slope c.in-Level2.trim_offset c.in-Level2.trim_power c.in-Level2.trim_chroma_weight c.in-Level2.trim_saturation_gain c.in-Level2.ms_weight (rw c.in-Level2.is at c.requires.2) in
+    let g = c.in-Level2 in
+    weight_held g.target_max_pq g.trim_slope g.trim_offset g.trim_power g.trim_chroma_weight g.trim_saturation_gain g.ms_weight (rw c.in-Level2.is at c.requires.2) in
     let fits : SFits w32 (weight) =
     let h = held in record { sfits = omega (arith, h.1) } in
     rw (same-weight) (fits)
 
 pub put_i-requires : goal.put_i-requires
-unfolding weight total_width
+unfolding total_width
 put_i-requires c =
     let weight : ℤ =
     c.in-Level2.ms_weight in
     let same-weight : to_z w16 (of_z w16 (weight)) ≡ weight =
     search rules in
     let held : (holds (signed 13) (weight) ≡ true) × (mag (weight) < 4096) =
-    let g = c.b-in-Level2-1.given.0 in
-    weight_held c.in-Level2.target_max_pq c.in-Level2.trim_slope c.in-Level2.trim_offset c.in-Level2.trim_power c.in-Level2.trim_chroma_weight c.in-Level2.trim_saturation_gain c.in-Level2.ms_weight (rw c.in-Level2.is at c.requires.2) in
+    let g = c.in-Level2 in
+    weight_held g.target_max_pq g.trim_slope g.trim_offset g.trim_power g.trim_chroma_weight g.trim_saturation_gain g.ms_weight (rw c.in-Level2.is at c.requires.2) in
     let fits : SFits w32 (weight) =
     let h = held in record { sfits = omega (arith, h.1) } in
     let s = c in
-    let g = c.b-in-Level2-1.given.0 in
+    let g = c.in-Level2 in
     let first = c.put_trims-p in
     let r = rw c.in-Level2.is at s.requires.1 in (
       first.ensures.sound,
-      room_left first.ensures 13 (omega (arith, r, length-trims c.in-Level2.target_max_pq c.in-Level2.trim_slope c.in-Level2.trim_offset c.in-Level2.trim_power c.in-Level2.trim_chroma_weight c.in-Level2.trim_saturation_gain)),
+      room_left first.ensures 13 (omega (arith, r, length-trims g.target_max_pq g.trim_slope g.trim_offset g.trim_power g.trim_chroma_weight g.trim_saturation_gain)),
       omega arith,
       omega arith,
       rw (same-weight, to_z-of_z w32 (weight) (fits)) (held).0,
@@ -88,21 +87,21 @@ returns-in-Level1 c =
     rw (g.is, level1-code g.min_pq g.max_pq g.avg_pq) c.put_level1.ensures
 
 pub returns-in-Level2 : goal.returns-in-Level2
-unfolding weight fields_code
+unfolding fields_code
 returns-in-Level2 c =
     let weight : ℤ =
     c.in-Level2.ms_weight in
     let same-weight : to_z w16 (of_z w16 (weight)) ≡ weight =
     search rules in
     let held : (holds (signed 13) (weight) ≡ true) × (mag (weight) < 4096) =
-    let g = c.b-in-Level2-1.given.0 in
-    weight_held c.in-Level2.target_max_pq c.in-Level2.trim_slope c.in-Level2.trim_offset c.in-Level2.trim_power c.in-Level2.trim_chroma_weight c.in-Level2.trim_saturation_gain c.in-Level2.ms_weight (rw c.in-Level2.is at c.requires.2) in
+    let g = c.in-Level2 in
+    weight_held g.target_max_pq g.trim_slope g.trim_offset g.trim_power g.trim_chroma_weight g.trim_saturation_gain g.ms_weight (rw c.in-Level2.is at c.requires.2) in
     let fits : SFits w32 (weight) =
     let h = held in record { sfits = omega (arith, h.1) } in
     let d = c in
-    let g = d.b-in-Level2-1.given.0 in
+    let g = d.in-Level2 in
     let put = rw (same-weight, to_z-of_z w32 (weight) (fits)) at c.put_i.ensures in
-    rw (d.in-Level2.is, level2-code c.in-Level2.target_max_pq c.in-Level2.trim_slope c.in-Level2.trim_offset c.in-Level2.trim_power c.in-Level2.trim_chroma_weight c.in-Level2.trim_saturation_gain (weight), append-nil (code 13 (complement 13 (weight))))
+    rw (d.in-Level2.is, level2-code g.target_max_pq g.trim_slope g.trim_offset g.trim_power g.trim_chroma_weight g.trim_saturation_gain (weight), append-nil (code 13 (complement 13 (weight))))
     (wrote_then d.put_trims-p.ensures put)
 
 pub returns-in-Level5 : goal.returns-in-Level5
