@@ -325,12 +325,13 @@ def convert(fn, text):
                 unfolding += [w for w in u.split()[1:] if w not in unfolding and w not in helpers]
             labels = fn.labels["ensures"]
             if new.startswith("returns") and len(labels) > 1:
-                b = body.strip()
+                lets_before, b = last_in(body.strip())
                 parts = top_tuple(b)
+                words = [f"«{l}»" if l in ("record", "data", "open") else l for l in labels]
                 if parts and len(parts) == len(labels):
-                    body = "record { " + "; ".join(f"{l} = {p.strip()}" for l, p in zip(labels, parts)) + " }"
+                    body = lets_before + "record { " + "; ".join(f"{l} = {p.strip()}" for l, p in zip(words, parts)) + " }"
                 else:
-                    body = f"let both = {b} in record {{ " + "; ".join(f"{l} = both.{i}" for i, l in enumerate(labels)) + " }"
+                    body = lets_before + f"let both = {b} in record {{ " + "; ".join(f"{l} = both.{i}" for i, l in enumerate(words)) + " }"
             ans.append(
                 "\n".join(
                     d["comment"]
@@ -383,6 +384,19 @@ def inlined(text, answers):
             if e and not [a for a in e.group(2).split() if a != "κs"]:
                 text = text[: m.start()] + "(" + as_c(e.group(3), e.group(1)) + ")" + text[m.end() :]
     return text
+
+
+def last_in(body):
+    """A body in two: its lets, and what stands behind the last `in` outside brackets."""
+    depth, cut = 0, 0
+    for m in re.finditer(r"[(\[{]|[)\]}]|(?<=\s)in(?=\s)", body):
+        if m.group() in "([{":
+            depth += 1
+        elif m.group() in ")]}":
+            depth -= 1
+        elif depth == 0:
+            cut = m.end()
+    return (body[:cut] + " " if cut else ""), body[cut:].strip()
 
 
 def top_tuple(b):

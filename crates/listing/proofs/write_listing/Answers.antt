@@ -25,10 +25,9 @@ pub returns-then-out-n : goal.returns-then-out-n
 returns-then-out-n c =
     let judged : listable c.args.q ≡ true =
     sym c.is_listable.ensures ∙ c.if-is_listable.true in
-    let both = let s = c in
+    let s = c in
     let q = s.args.q in
-    let put = typed_whole c.put_listing-n.ensures in
-    short (listing q) (listable q) s.args.out.now (judged) (omega (arith, put.1)) in record { result = both.0; buffer = both.1 }
+    let put = typed_whole c.put_listing-n.ensures in let both = short (listing q) (listable q) s.args.out.now (judged) (omega (arith, put.1)) in record { result = both.0; buffer = both.1 }
 
 pub slice_bounds-page-end : goal.slice_bounds-page-end
 slice_bounds-page-end c =
@@ -54,14 +53,11 @@ pub returns-else-out-n : goal.returns-else-out-n
 returns-else-out-n c =
     let judged : listable c.args.q ≡ true =
     sym c.is_listable.ensures ∙ c.if-is_listable.true in
-    let both = let s = c in
+    let s = c in
     let q = s.args.q in
     let put = typed_whole c.put_listing-n.ensures in
     let copied = rw (put.0, take-length (listing q)) at c.copy.ensures.1 in
-    let d = done (listing q) (listable q) s.args.out.now (judged) (omega (arith, put.1)) in
-    (rw put.1 d.0, copied ∙ d.1) in record { result = both.0; buffer = both.1 }
+    let d = done (listing q) (listable q) s.args.out.now (judged) (omega (arith, put.1)) in record { result = rw put.1 d.0; buffer = copied ∙ d.1 }
 
 pub returns-else-is_listable : goal.returns-else-is_listable
-returns-else-is_listable c =
-    let both = let s = c in
-    bad (listing s.args.q) (listable s.args.q) s.args.out.now (sym c.is_listable.ensures ∙ c.if-is_listable.false) in record { result = both.0; buffer = both.1 }
+returns-else-is_listable c = let s = c in let both = bad (listing s.args.q) (listable s.args.q) s.args.out.now (sym c.is_listable.ensures ∙ c.if-is_listable.false) in record { result = both.0; buffer = both.1 }

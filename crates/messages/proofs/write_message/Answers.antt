@@ -17,31 +17,29 @@ use Rattle.messages.proofs.write_message.Goals as goal
 pub returns-then-out-lt3 : goal.returns-then-out-lt3
 returns-then-out-lt3 c =
     let long : length c.args.r.places ≡ most_blocks =
-    c.well_formed.0.1.1.1.1.0.1.0.1 in
+    sym (length-map c.args.r.places _) ∙ c.well_formed.0.1.1.1.1.0.1.0.1 in
     let bytes-are : valid c.args.r ≡ true → message_rbsp c.args.r ≡ rbsp_of (wrapped_payload c.args.r) =
     rbsp_is c.args.r (long) in
-    let both = let s = c in
+    let s = c in
     let r = s.args.r in
-    let x = no_room (message_rbsp r) (wrapped_payload r) (valid r) (bytes-are) s.args.out.now c.if-out-lt3.true in
-    (c.without_room.ensures ∙ ap without_room c.is_valid.ensures ∙ x.0, x.1) in record { result = both.0; buffer = both.1 }
+    let x = no_room (message_rbsp r) (wrapped_payload r) (valid r) (bytes-are) s.args.out.now c.if-out-lt3.true in record { result = c.without_room.ensures ∙ ap without_room c.is_valid.ensures ∙ x.0; buffer = x.1 }
 
 pub returns-then-data-ne0 : goal.returns-then-data-ne0
 returns-then-data-ne0 c =
     let long : length c.args.r.places ≡ most_blocks =
-    c.well_formed.0.1.1.1.1.0.1.0.1 in
+    sym (length-map c.args.r.places _) ∙ c.well_formed.0.1.1.1.1.0.1.0.1 in
     let bytes-are : valid c.args.r ≡ true → message_rbsp c.args.r ≡ rbsp_of (wrapped_payload c.args.r) =
     rbsp_is c.args.r (long) in
-    let both = let s = c in
+    let s = c in
     let d = c.write_wrapped-data in
     let r = s.args.r in
     let out = s.args.out.now in
-    let x = refused_within (message_rbsp r) (wrapped_payload r) (valid r) (bytes-are) out (omega arith) d.result d.ensures.result c.if-data-ne0.true in
-    (x.0, ap (put_mid 2 (length out - 1 - 2) out) (d.ensures.buffer ∙ x.1) ∙ put_same 2 (length out - 1 - 2) out ∙ x.2) in record { result = both.0; buffer = both.1 }
+    let x = refused_within (message_rbsp r) (wrapped_payload r) (valid r) (bytes-are) out (omega arith) d.result d.ensures.result c.if-data-ne0.true in record { result = x.0; buffer = ap (put_mid 2 (length out - 1 - 2) out) (d.ensures.buffer ∙ x.1) ∙ put_same 2 (length out - 1 - 2) out ∙ x.2 }
 
 pub overflow_cast-out-2 : goal.overflow_cast-out-2
 overflow_cast-out-2 c =
     let long : length c.args.r.places ≡ most_blocks =
-    c.well_formed.0.1.1.1.1.0.1.0.1 in
+    sym (length-map c.args.r.places _) ∙ c.well_formed.0.1.1.1.1.0.1.0.1 in
     let bytes-are : valid c.args.r ≡ true → message_rbsp c.args.r ≡ rbsp_of (wrapped_payload c.args.r) =
     rbsp_is c.args.r (long) in
     let fits-within : (c.write_wrapped-data.result.bytes ≤ 232) × (c.write_wrapped-data.result.bytes + 3 ≤ length c.args.out.now) =
@@ -59,7 +57,7 @@ bounds-out-1 c = simp length-set (omega arith)
 pub overflow_add-out : goal.overflow_add-out
 overflow_add-out c =
     let long : length c.args.r.places ≡ most_blocks =
-    c.well_formed.0.1.1.1.1.0.1.0.1 in
+    sym (length-map c.args.r.places _) ∙ c.well_formed.0.1.1.1.1.0.1.0.1 in
     let bytes-are : valid c.args.r ≡ true → message_rbsp c.args.r ≡ rbsp_of (wrapped_payload c.args.r) =
     rbsp_is c.args.r (long) in
     let fits-within : (c.write_wrapped-data.result.bytes ≤ 232) × (c.write_wrapped-data.result.bytes + 3 ≤ length c.args.out.now) =
@@ -74,7 +72,7 @@ overflow_add-out c =
 pub bounds-out-n : goal.bounds-out-n
 bounds-out-n c =
     let long : length c.args.r.places ≡ most_blocks =
-    c.well_formed.0.1.1.1.1.0.1.0.1 in
+    sym (length-map c.args.r.places _) ∙ c.well_formed.0.1.1.1.1.0.1.0.1 in
     let bytes-are : valid c.args.r ≡ true → message_rbsp c.args.r ≡ rbsp_of (wrapped_payload c.args.r) =
     rbsp_is c.args.r (long) in
     let fits-within : (c.write_wrapped-data.result.bytes ≤ 232) × (c.write_wrapped-data.result.bytes + 3 ≤ length c.args.out.now) =
@@ -89,7 +87,7 @@ bounds-out-n c =
 pub overflow_add-result : goal.overflow_add-result
 overflow_add-result c =
     let long : length c.args.r.places ≡ most_blocks =
-    c.well_formed.0.1.1.1.1.0.1.0.1 in
+    sym (length-map c.args.r.places _) ∙ c.well_formed.0.1.1.1.1.0.1.0.1 in
     let bytes-are : valid c.args.r ≡ true → message_rbsp c.args.r ≡ rbsp_of (wrapped_payload c.args.r) =
     rbsp_is c.args.r (long) in
     let fits-within : (c.write_wrapped-data.result.bytes ≤ 232) × (c.write_wrapped-data.result.bytes + 3 ≤ length c.args.out.now) =
@@ -104,10 +102,9 @@ overflow_add-result c =
 pub returns : goal.returns
 returns c =
     let long : length c.args.r.places ≡ most_blocks =
-    c.well_formed.0.1.1.1.1.0.1.0.1 in
+    sym (length-map c.args.r.places _) ∙ c.well_formed.0.1.1.1.1.0.1.0.1 in
     let bytes-are : valid c.args.r ≡ true → message_rbsp c.args.r ≡ rbsp_of (wrapped_payload c.args.r) =
     rbsp_is c.args.r (long) in
-    let both = let s = c in
+    let s = c in
     let d = c.write_wrapped-data in
-    let r = s.args.r in
-    message_stored (message_rbsp r) (wrapped_payload r) (valid r) (bytes-are) s.args.out.now (omega arith) d.result d.ensures.result c.if-data-ne0.false d.new.out d.ensures.buffer in record { result = both.0; buffer = both.1 }
+    let r = s.args.r in let both = message_stored (message_rbsp r) (wrapped_payload r) (valid r) (bytes-are) s.args.out.now (omega arith) d.result d.ensures.result c.if-data-ne0.false d.new.out d.ensures.buffer in record { result = both.0; buffer = both.1 }

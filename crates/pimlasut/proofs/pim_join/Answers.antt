@@ -21,9 +21,7 @@ use borrow.Author.Rules.{rules}
 use Rattle.pimlasut.proofs.pim_join.Goals as goal
 
 pub returns-then-first-second : goal.returns-then-first-second
-returns-then-first-second c =
-    let both = let a = c.args in
-    (wrong (is_table a.first.now && is_table a.second.now && is_table a.table.now) (joining a.first.now a.first_count a.second.now a.second-count).result (one_of_three_wrong (is_table a.first.now) (is_table a.second.now) (is_table a.table.now) c.if-first-second.true), (refl, refl)) in record { result = both.0; table = both.1; count = both.2 }
+returns-then-first-second c = let a = c.args in let both = (wrong (is_table a.first.now && is_table a.second.now && is_table a.table.now) (joining a.first.now a.first_count a.second.now a.second_count).result (one_of_three_wrong (is_table a.first.now) (is_table a.second.now) (is_table a.table.now) c.if-first-second.true), (refl, refl)) in record { result = both.0; table = both.1; count = both.2 }
 
 pub scan-s-requires : goal.scan-s-requires
 scan-s-requires c =
@@ -46,32 +44,32 @@ decide-layout-requires c =
     let a = c.args in (
       (λ e. subst (λ (q : Scanned). (a.first_count ≤ most_points) × RisingTags (first_tags a.first_count q.pictures)) (sym c.scan-s.ensures)
           (rising_seen 0 (table_in a.first.now) a.first_count (sym (ap (λ (q : Scanned). q.track) c.scan-s.ensures) ∙ e))),
-      (λ e. subst (λ (q : Scanned). (a.second-count ≤ most_points) × RisingTags (second_tags a.second-count q.pictures)) (sym c.scan-t.ensures)
-          (rising_seen most_points (table_in a.second.now) a.second-count (sym (ap (λ (q : Scanned). q.track) c.scan-t.ensures) ∙ e))),
+      (λ e. subst (λ (q : Scanned). (a.second_count ≤ most_points) × RisingTags (second_tags a.second_count q.pictures)) (sym c.scan-t.ensures)
+          (rising_seen most_points (table_in a.second.now) a.second_count (sym (ap (λ (q : Scanned). q.track) c.scan-t.ensures) ∙ e))),
     )
 
 pub returns-then-layout-ne0 : goal.returns-then-layout-ne0
 returns-then-layout-ne0 c =
-    let planned-is : let a = c.args in c.decide-layout.result ≡ planned a.first.now a.first_count a.second.now a.second-count =
+    let planned-is : let a = c.args in c.decide-layout.result ≡ planned a.first.now a.first_count a.second.now a.second_count =
     let a = c.args in
-    c.decide-layout.ensures ∙ ap (λ (q : Scanned). plan_of q a.first_count c.scan-t.result a.second-count most_points) c.scan-s.ensures
-    ∙ ap (λ (q : Scanned). plan_of (scan_of (table_in a.first.now) a.first_count) a.first_count q a.second-count most_points) c.scan-t.ensures in
+    c.decide-layout.ensures ∙ ap (λ (q : Scanned). plan_of q a.first_count c.scan-t.result a.second_count most_points) c.scan-s.ensures
+    ∙ ap (λ (q : Scanned). plan_of (scan_of (table_in a.first.now) a.first_count) a.first_count q a.second_count most_points) c.scan-t.ensures in
     let answered : let a = c.args in
-    (c.decide-layout.result.result ≡ if_sized (is_table a.first.now && is_table a.second.now && is_table a.table.now) (joining a.first.now a.first_count a.second.now a.second-count).result) × (c.decide-layout.result.count ≡ (joining a.first.now a.first_count a.second.now a.second-count).count) =
+    (c.decide-layout.result.result ≡ if_sized (is_table a.first.now && is_table a.second.now && is_table a.table.now) (joining a.first.now a.first_count a.second.now a.second_count).result) × (c.decide-layout.result.count ≡ (joining a.first.now a.first_count a.second.now a.second_count).count) =
     let a = c.args in
-    let e = ap answer_of (planned-is) ∙ planned_answer a.first.now a.first_count a.second.now a.second-count in
+    let e = ap answer_of (planned-is) ∙ planned_answer a.first.now a.first_count a.second.now a.second_count in
     let t = none_of_three_wrong (is_table a.first.now) (is_table a.second.now) (is_table a.table.now) c.if-first-second.false in (
-      ap (λ (j : Joined). j.result) e ∙ right (is_table a.first.now && is_table a.second.now && is_table a.table.now) (joining a.first.now a.first_count a.second.now a.second-count).result
+      ap (λ (j : Joined). j.result) e ∙ right (is_table a.first.now && is_table a.second.now && is_table a.table.now) (joining a.first.now a.first_count a.second.now a.second_count).result
           (and_both (is_table a.first.now && is_table a.second.now) (is_table a.table.now) (and_both (is_table a.first.now) (is_table a.second.now) t.0 t.1) t.2),
       ap (λ (j : Joined). j.count) e,
     ) in
-    let both = let a = c.args in
+    let a = c.args in
     let layout = c.decide-layout.result in
-    let no = c.if-layout-ne0.true in (
+    let no = c.if-layout-ne0.true in let both = (
       (answered).0,
       (
-        kept layout.result (joined_table a.first.now a.first_count a.second.now a.second-count) a.table.now no,
-        kept layout.result (joining a.first.now a.first_count a.second.now a.second-count).count a.count.now no,
+        kept layout.result (joined_table a.first.now a.first_count a.second.now a.second_count) a.table.now no,
+        kept layout.result (joining a.first.now a.first_count a.second.now a.second_count).count a.count.now no,
       ),
     ) in record { result = both.0; table = both.1; count = both.2 }
 
@@ -86,35 +84,35 @@ fill-requires c =
 pub overflow_cast-count : goal.overflow_cast-count
 overflow_cast-count c =
     let d = c in
-    record { fits = omega (arith, ap (λ (l : Layout). l.count) d.decide-layout.ensures, few_points d.scan-s.result d.args.first_count d.scan-t.result d.args.second-count most_points) }
+    record { fits = omega (arith, ap (λ (l : Layout). l.count) d.decide-layout.ensures, few_points d.scan-s.result d.args.first_count d.scan-t.result d.args.second_count most_points) }
 
 pub returns : goal.returns
 returns c =
-    let planned-is : let a = c.args in c.decide-layout.result ≡ planned a.first.now a.first_count a.second.now a.second-count =
+    let planned-is : let a = c.args in c.decide-layout.result ≡ planned a.first.now a.first_count a.second.now a.second_count =
     let a = c.args in
-    c.decide-layout.ensures ∙ ap (λ (q : Scanned). plan_of q a.first_count c.scan-t.result a.second-count most_points) c.scan-s.ensures
-    ∙ ap (λ (q : Scanned). plan_of (scan_of (table_in a.first.now) a.first_count) a.first_count q a.second-count most_points) c.scan-t.ensures in
+    c.decide-layout.ensures ∙ ap (λ (q : Scanned). plan_of q a.first_count c.scan-t.result a.second_count most_points) c.scan-s.ensures
+    ∙ ap (λ (q : Scanned). plan_of (scan_of (table_in a.first.now) a.first_count) a.first_count q a.second_count most_points) c.scan-t.ensures in
     let answered : let a = c.args in
-    (c.decide-layout.result.result ≡ if_sized (is_table a.first.now && is_table a.second.now && is_table a.table.now) (joining a.first.now a.first_count a.second.now a.second-count).result) × (c.decide-layout.result.count ≡ (joining a.first.now a.first_count a.second.now a.second-count).count) =
+    (c.decide-layout.result.result ≡ if_sized (is_table a.first.now && is_table a.second.now && is_table a.table.now) (joining a.first.now a.first_count a.second.now a.second_count).result) × (c.decide-layout.result.count ≡ (joining a.first.now a.first_count a.second.now a.second_count).count) =
     let a = c.args in
-    let e = ap answer_of (planned-is) ∙ planned_answer a.first.now a.first_count a.second.now a.second-count in
+    let e = ap answer_of (planned-is) ∙ planned_answer a.first.now a.first_count a.second.now a.second_count in
     let t = none_of_three_wrong (is_table a.first.now) (is_table a.second.now) (is_table a.table.now) c.if-first-second.false in (
-      ap (λ (j : Joined). j.result) e ∙ right (is_table a.first.now && is_table a.second.now && is_table a.table.now) (joining a.first.now a.first_count a.second.now a.second-count).result
+      ap (λ (j : Joined). j.result) e ∙ right (is_table a.first.now && is_table a.second.now && is_table a.table.now) (joining a.first.now a.first_count a.second.now a.second_count).result
           (and_both (is_table a.first.now && is_table a.second.now) (is_table a.table.now) (and_both (is_table a.first.now) (is_table a.second.now) t.0 t.1) t.2),
       ap (λ (j : Joined). j.count) e,
     ) in
-    let both = let a = c.args in
+    let a = c.args in
     let d = c in
     let layout = d.decide-layout.result in
     let done : layout.result ≡ 0 = c.if-layout-ne0.false in
     let e = planned-is in
-    let p = planned a.first.now a.first_count a.second.now a.second-count in
-    let entries = flat_table (map (chosen_of (table_in a.first.now) (table_in a.second.now)) layout.sources) in (
+    let p = planned a.first.now a.first_count a.second.now a.second_count in
+    let entries = flat_table (map (chosen_of (table_in a.first.now) (table_in a.second.now)) layout.sources) in let both = (
       sym done ∙ (answered).0,
       (
         c.fill.ensures ∙ ap (λ (u : Bool). cond u entries a.table.now) (eq-eqb layout.result 0 done)
             ∙ ap (λ (l : Layout). flat_table (map (chosen_of (table_in a.first.now) (table_in a.second.now)) l.sources)) e
-            ∙ ap flat_table (planned_table a.first.now a.first_count a.second.now a.second-count (sym (ap (λ (l : Layout). l.result) e) ∙ done)),
+            ∙ ap flat_table (planned_table a.first.now a.first_count a.second.now a.second_count (sym (ap (λ (l : Layout). l.result) e) ∙ done)),
         (answered).1,
       ),
     ) in record { result = both.0; table = both.1; count = both.2 }

@@ -22,9 +22,7 @@ use borrow.Author.Rules.{rules}
 use Rattle.pimlasut.proofs.pim_lookup.Goals as goal
 
 pub returns-then-table-numbers : goal.returns-then-table-numbers
-returns-then-table-numbers c =
-    let both = let a = c.args in
-    (wrong (is_table a.table.now && is_point a.numbers.now) (looking a.table.now a.count a.picture).result (one_wrong (is_table a.table.now) (is_point a.numbers.now) c.if-table-numbers.true), (refl, refl)) in record { result = both.0; point = both.1; found = both.2 }
+returns-then-table-numbers c = let a = c.args in let both = (wrong (is_table a.table.now && is_point a.numbers.now) (looking a.table.now a.count a.picture).result (one_wrong (is_table a.table.now) (is_point a.numbers.now) c.if-table-numbers.true), (refl, refl)) in record { result = both.0; point = both.1; found = both.2 }
 
 pub scan-seen-requires : goal.scan-seen-requires
 scan-seen-requires c =
@@ -60,11 +58,11 @@ returns c =
     ∙ ap (seek_of (scan_of (table_in a.table.now) a.count) a.count) (to_z-of_z w32 a.picture s.ranges.picture) in
     let sized : (is_table c.args.table.now ≡ true) × (is_point c.args.numbers.now ≡ true) =
     none_wrong (is_table c.args.table.now) (is_point c.args.numbers.now) c.if-table-numbers.false in
-    let both = let a = c.args in
+    let a = c.args in
     let l = a.table.now in
     let e = found in
     let t = sized in
-    let show = c.show in (
+    let show = c.show in let both = (
       show.ensures.result ∙ ap (λ (f : Sought). f.result) e ∙ sought_result l a.count a.picture
           ∙ right (is_table l && is_point a.numbers.now) (looking l a.count a.picture).result (and_both (is_table l) (is_point a.numbers.now) t.0 t.1),
       (

@@ -26,9 +26,7 @@ use borrow.Author.Rules.{rules}
 use Rattle.pimlasut.proofs.pim_place.Goals as goal
 
 pub returns-then-numbers-table : goal.returns-then-numbers-table
-returns-then-numbers-table c =
-    let both = let a = c.args in
-    (wrong (is_record a.numbers.now && is_table a.table.now) (placing a.numbers.now a.picture a.segment).result (one_wrong (is_record a.numbers.now) (is_table a.table.now) c.if-numbers-table.true), (refl, refl)) in record { result = both.0; table = both.1; count = both.2 }
+returns-then-numbers-table c = let a = c.args in let both = (wrong (is_record a.numbers.now && is_table a.table.now) (placing a.numbers.now a.picture a.segment).result (one_wrong (is_record a.numbers.now) (is_table a.table.now) c.if-numbers-table.true), (refl, refl)) in record { result = both.0; table = both.1; count = both.2 }
 
 pub get_record-r-requires : goal.get_record-r-requires
 get_record-r-requires c =
@@ -51,7 +49,7 @@ returns-then-is_valid c =
     none_wrong (is_record c.args.numbers.now) (is_table c.args.table.now) c.if-numbers-table.false in
     let read : c.get_record-r.result ≡ record_in c.args.numbers.now =
     let l = c.args.numbers.now in c.get_record-r.ensures ∙ ap record_in (whole_row l flat_length (eqb-true _ _ (sized).0)) in
-    let both = let a = c.args in
+    let a = c.args in
     let r = record_in a.numbers.now in
     let x = point_named a.numbers.now a.picture a.segment in
     let got = c.get_record-r.result in
@@ -60,7 +58,7 @@ returns-then-is_valid c =
     let t = sized in
     let good : valid r ≡ true = sym (c.is_valid.ensures ∙ ap valid e) ∙ c.if-is_valid.true in
     let done : place_refusal x most_points ≡ 0 = ap (λ (u : Bool). cond u 0 not_valid) good in
-    let place = c.place_point in (
+    let place = c.place_point in let both = (
       sym done ∙ right (is_record a.numbers.now && is_table a.table.now) (place_refusal x most_points) (and_both (is_record a.numbers.now) (is_table a.table.now) t.0 t.1),
       (
         place.ensures.table ∙ ap (λ (q : Point). flat_table (padded (placed_points q))) p,
@@ -75,12 +73,12 @@ returns c =
     none_wrong (is_record c.args.numbers.now) (is_table c.args.table.now) c.if-numbers-table.false in
     let read : c.get_record-r.result ≡ record_in c.args.numbers.now =
     let l = c.args.numbers.now in c.get_record-r.ensures ∙ ap record_in (whole_row l flat_length (eqb-true _ _ (sized).0)) in
-    let both = let a = c.args in
+    let a = c.args in
     let r = record_in a.numbers.now in
     let x = point_named a.numbers.now a.picture a.segment in
     let e = read in
     let t = sized in
-    let bad : valid r ≡ false = sym (c.is_valid.ensures ∙ ap valid e) ∙ c.if-is_valid.false in (
+    let bad : valid r ≡ false = sym (c.is_valid.ensures ∙ ap valid e) ∙ c.if-is_valid.false in let both = (
       sym (ap (λ (u : Bool). cond u 0 not_valid) bad) ∙ right (is_record a.numbers.now && is_table a.table.now) (place_refusal x most_points) (and_both (is_record a.numbers.now) (is_table a.table.now) t.0 t.1),
       (refl, refl),
     ) in record { result = both.0; table = both.1; count = both.2 }

@@ -12,14 +12,13 @@ use Rattle.pimlasut.proofs.pim_read_bare.Goals as goal
 
 pub returns-then-numbers-facts : goal.returns-then-numbers-facts
 returns-then-numbers-facts c =
-    let both = let d = c in
-    let a = d.args in
-    unfit_reading a.numbers.now a.facts.now (read_bare a.input.now) (one_wrong (is_record a.numbers.now) (is_facts a.facts.now) d.if-numbers-facts.true) c.clear_facts.ensures in record { result = both.0; record = both.1; facts = both.2 }
+    let d = c in
+    let a = d.args in let both = unfit_reading a.numbers.now a.facts.now (read_bare a.input.now) (one_wrong (is_record a.numbers.now) (is_facts a.facts.now) d.if-numbers-facts.true) c.clear_facts.ensures in record { result = both.0; «record» = both.1; facts = both.2 }
 
 pub give_reading-requires : goal.give_reading-requires
 give_reading-requires c =
     let sized : (is_record c.args.numbers.now ≡ true) × (is_facts c.args.facts.now ≡ true) =
-        none_wrong (is_record c.args.numbers.now) (is_facts c.args.facts.now) c.if-numbers-facts.false in
+    none_wrong (is_record c.args.numbers.now) (is_facts c.args.facts.now) c.if-numbers-facts.false in
     let d = c in
     let a = d.args in
     (eqb-true (length a.numbers.now) flat_length (sized).0, eqb-true (length a.facts.now) facts_length (sized).1)
@@ -27,8 +26,7 @@ give_reading-requires c =
 pub returns : goal.returns
 returns c =
     let sized : (is_record c.args.numbers.now ≡ true) × (is_facts c.args.facts.now ≡ true) =
-        none_wrong (is_record c.args.numbers.now) (is_facts c.args.facts.now) c.if-numbers-facts.false in
-    let both = let given = c.give_reading.ensures in
+    none_wrong (is_record c.args.numbers.now) (is_facts c.args.facts.now) c.if-numbers-facts.false in
+    let given = c.give_reading.ensures in
     let read = c in
-    let a = read.args in
-    given_reading a.numbers.now a.facts.now (read_bare a.input.now) (sized) read.read_data-reading.ensures given.result given.record.0 given.record.1 in record { result = both.0; record = both.1; facts = both.2 }
+    let a = read.args in let both = given_reading a.numbers.now a.facts.now (read_bare a.input.now) (sized) read.read_data-reading.ensures given.result given.record.0 given.record.1 in record { result = both.0; «record» = both.1; facts = both.2 }

@@ -16,10 +16,9 @@ use Rattle.pimlasut.proofs.pim_shader.Goals as goal
 
 pub returns-then-numbers-bits : goal.returns-then-numbers-bits
 returns-then-numbers-bits c =
-    let both = let a = c.args in
+    let a = c.args in
     let l = a.numbers.now in
-    let d = a.bits.now in
-    (wrong (eqb (length l) place_length && eqb (length d) singles) (conversion_result (block_named l)) (one_wrong (eqb (length l) place_length) (eqb (length d) singles) c.if-numbers-bits.true), refl) in record { result = both.0; bits = both.1 }
+    let d = a.bits.now in record { result = wrong (eqb (length l) place_length && eqb (length d) singles) (conversion_result (block_named l)) (one_wrong (eqb (length l) place_length) (eqb (length d) singles) c.if-numbers-bits.true); bits = refl }
 
 pub get_block-block-requires : goal.get_block-block-requires
 get_block-block-requires c =
@@ -48,11 +47,10 @@ returns-then-conversion-ne0 c =
     let d = c.args.bits.now in
     let t = none_wrong (eqb (length l) place_length) (eqb (length d) singles) c.if-numbers-bits.false in
     right (eqb (length l) place_length && eqb (length d) singles) (conversion_result (block_named l)) (and_both (eqb (length l) place_length) (eqb (length d) singles) t.0 t.1) in
-    let both = let a = c.args in
+    let a = c.args in
     let l = a.numbers.now in
     let d = a.bits.now in
-    let x = (converted).0 in
-    (x ∙ whole-result, kept c.shader_numbers-conversion.result.result (conversion_bits (block_named l)) d c.if-conversion-ne0.true) in record { result = both.0; bits = both.1 }
+    let x = (converted).0 in record { result = x ∙ whole-result; bits = kept c.shader_numbers-conversion.result.result (conversion_bits (block_named l)) d c.if-conversion-ne0.true }
 
 pub put_bits-requires : goal.put_bits-requires
 put_bits-requires c =
@@ -87,8 +85,7 @@ returns c =
     let d = c.args.bits.now in
     let t = none_wrong (eqb (length l) place_length) (eqb (length d) singles) c.if-numbers-bits.false in
     right (eqb (length l) place_length && eqb (length d) singles) (conversion_result (block_named l)) (and_both (eqb (length l) place_length) (eqb (length d) singles) t.0 t.1) in
-    let both = let a = c.args in
+    let a = c.args in
     let l = a.numbers.now in
     let x = converted in
-    let done : conversion_result (block_named l) ≡ 0 = sym x.0 ∙ c.if-conversion-ne0.false in
-    (sym done ∙ whole-result, c.put_bits.ensures ∙ x.1) in record { result = both.0; bits = both.1 }
+    let done : conversion_result (block_named l) ≡ 0 = sym x.0 ∙ c.if-conversion-ne0.false in record { result = sym done ∙ whole-result; bits = c.put_bits.ensures ∙ x.1 }

@@ -12,7 +12,7 @@ pub give_written-requires : goal.give_written-requires
 give_written-requires c =
     let short : length (reason_text c.read_wrapped-reading.result) ≤ length longest =
     let q = c.read_wrapped-reading.result in
-    let g = c.read_wrapped-reading.type_inv in
+    let g = c.read_wrapped-reading.type-inv in
     let why = g.1.1.1.1.1.1.1.0 in
     no_reason_is_longer q.result q.offset q.cause g.1.1.0.1 g.1.1.1.1.1.1.0.1 why.1.1.1.1.0.1 why.1.1.1.1.1.0.1 why.1.1.1.1.1.1.0.1 in
     let made = c in
@@ -22,8 +22,7 @@ give_written-requires c =
 
 pub returns : goal.returns
 returns c =
-    let both = let made = c in
+    let made = c in
     let read = made in
-    let a = read.args in
-    given-reason (read_wrapped a.input.now) a.out.now read.read_wrapped-reading.ensures made.write_reason-answer.ensures.result
+    let a = read.args in let both = given-reason (read_wrapped a.input.now) a.out.now read.read_wrapped-reading.ensures made.write_reason-answer.ensures.result
     a.written.now made.write_reason-answer.ensures.buffer c.give_written.ensures.result c.give_written.ensures.bytes in record { result = both.0; buffer = both.1; bytes = both.2 }

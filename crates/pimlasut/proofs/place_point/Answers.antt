@@ -13,19 +13,16 @@ use Rattle.pimlasut.proofs.place_point.Goals as goal
 
 pub returns-then-shown : goal.returns-then-shown
 returns-then-shown c =
-    let both = let x = c.args.point in
+    let x = c.args.point in
     let pre = c.requires in
     let yes = c.if-shown.true in
-    let cleared = c.clear in (
-      sym (ap (λ (t : Bool). length (cond t (x ∷ []) [])) yes),
-      c.put_point.ensures ∙ ap (λ (t : List ℤ). paste t 0 (flat_point x) point_length) cleared.ensures ∙ placed_one x (length_point x pre.1)
-          ∙ sym (ap (λ (t : Bool). flat_table (padded (cond t (x ∷ []) []))) yes),
-    ) in record { count = both.0; table = both.1 }
+    let cleared = c.clear in record {
+      count = sym (ap (λ (t : Bool). length (cond t (x ∷ []) [])) yes);
+      table = c.put_point.ensures ∙ ap (λ (t : List ℤ). paste t 0 (flat_point x) point_length) cleared.ensures ∙ placed_one x (length_point x pre.1)
+          ∙ sym (ap (λ (t : Bool). flat_table (padded (cond t (x ∷ []) []))) yes);
+    }
 
 pub returns : goal.returns
 returns c =
-    let both = let x = c.args.point in
-    let no = c.if-shown.false in (
-      sym (ap (λ (t : Bool). length (cond t (x ∷ []) [])) no),
-      c.clear.ensures ∙ placed_none ∙ sym (ap (λ (t : Bool). flat_table (padded (cond t (x ∷ []) []))) no),
-    ) in record { count = both.0; table = both.1 }
+    let x = c.args.point in
+    let no = c.if-shown.false in record { count = sym (ap (λ (t : Bool). length (cond t (x ∷ []) [])) no); table = c.clear.ensures ∙ placed_none ∙ sym (ap (λ (t : Bool). flat_table (padded (cond t (x ∷ []) []))) no) }

@@ -38,7 +38,7 @@ returns c =
     let a = s.args in
     let v = a.c in
     let behind = v.value % 2 ^ 32 ∷ v.value / 2 ^ 32 ∷ v.lowest ∷ v.highest ∷ [] in
-    let l = a.bits ∷ a.skipped ∷ a.offset ∷ a.mark ∷ about.number_of_lem.result ∷ told.kind_of-told.result ∷ behind in
+    let l = a.bits ∷ a.skipped ∷ a.offset ∷ a.mark ∷ about.number_of-about.result ∷ told.kind_of-told.result ∷ behind in
     let d = a.facts.now in
-    sets-eq l d 0 (omega (arith, s.requires)) ∙ ap (λ (k : List ℕ). l ++ k) (drop_of_length-le d {i = 0 + 10} (omega (arith, s.requires))) ∙ ap (λ (n : ℕ). a.bits ∷ a.skipped ∷ a.offset ∷ a.mark ∷ n ∷ told.kind_of-told.result ∷ behind) about.number_of_lem.ensures
+    sets-eq l d 0 (omega (arith, s.requires)) ∙ ap (λ (k : List ℕ). l ++ k) (drop_of_length-le d {i = 0 + 10} (omega (arith, s.requires))) ∙ ap (λ (n : ℕ). a.bits ∷ a.skipped ∷ a.offset ∷ a.mark ∷ n ∷ told.kind_of-told.result ∷ behind) about.number_of-about.ensures
     ∙ ap (λ (n : ℕ). a.bits ∷ a.skipped ∷ a.offset ∷ a.mark ∷ number_of v.element ∷ n ∷ behind) told.kind_of-told.ensures

@@ -11,8 +11,8 @@ use Rattle.pimlasut.proofs.show.Goals as goal
 
 pub returns-then-sought-ne0 : goal.returns-then-sought-ne0
 returns-then-sought-ne0 c =
-    let both = let a = c.args in
-    let no = c.if-sought-ne0.true in (
+    let a = c.args in
+    let no = c.if-sought-ne0.true in let both = (
       refl,
       (
         kept a.sought.result (flat_point (found_in a.table.now a.sought)) a.numbers.now no,
@@ -25,9 +25,9 @@ found_point-point-requires c = let s = c in (s.requires.0, s.requires.2)
 
 pub returns : goal.returns
 returns c =
-    let both = let s = c in
+    let s = c in
     let a = s.args in
-    let q = found_in a.table.now a.sought in (
+    let q = found_in a.table.now a.sought in let both = (
       sym c.if-sought-ne0.false,
       (
         c.put_point.ensures ∙ ap (λ (p : Point). paste a.numbers.now 0 (flat_point p) point_length) c.found_point-point.ensures

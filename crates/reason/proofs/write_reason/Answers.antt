@@ -20,9 +20,8 @@ put_reason-n-requires c =
 
 pub returns-then-out-n : goal.returns-then-out-n
 returns-then-out-n c =
-    let both = let s = c in
-    let put = typed_whole c.put_reason-n.ensures in
-    short (reason_text s.args.q) true s.args.out.now refl (omega (arith, put.1)) in record { result = both.0; buffer = both.1 }
+    let s = c in
+    let put = typed_whole c.put_reason-n.ensures in let both = short (reason_text s.args.q) true s.args.out.now refl (omega (arith, put.1)) in record { result = both.0; buffer = both.1 }
 
 pub slice_bounds-page-end : goal.slice_bounds-page-end
 slice_bounds-page-end c =
@@ -44,9 +43,8 @@ LOST-copy_requires c =
 
 pub returns : goal.returns
 returns c =
-    let both = let s = c in
+    let s = c in
     let t = reason_text s.args.q in
     let put = typed_whole c.put_reason-n.ensures in
     let copied = rw (put.0, take-length t) at c.copy.ensures.1 in
-    let d = done t true s.args.out.now refl (omega (arith, put.1)) in
-    (rw put.1 d.0, copied ∙ d.1) in record { result = both.0; buffer = both.1 }
+    let d = done t true s.args.out.now refl (omega (arith, put.1)) in record { result = rw put.1 d.0; buffer = copied ∙ d.1 }

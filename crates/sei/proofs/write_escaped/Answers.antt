@@ -22,9 +22,8 @@ overflow_add-n c =
 
 pub returns-then-out-n : goal.returns-then-out-n
 returns-then-out-n c =
-    let both = let s = c in
-    let bytes = escaped s.args.body.now in
-    short (our_header ++ bytes) true s.args.out.now refl (omega (arith, c.escaped_length-n.ensures, c.if-out-n.true)) in record { result = both.0; buffer = both.1 }
+    let s = c in
+    let bytes = escaped s.args.body.now in let both = short (our_header ++ bytes) true s.args.out.now refl (omega (arith, c.escaped_length-n.ensures, c.if-out-n.true)) in record { result = both.0; buffer = both.1 }
 
 pub bounds-out-1 : goal.bounds-out-1
 bounds-out-1 c = simp length-set (omega arith)
@@ -49,11 +48,10 @@ shape_of-out c =
 
 pub returns : goal.returns
 returns c =
-    let both = let s = c in
+    let s = c in
     let d = c.escaped_length-n in
     let bytes = escaped s.args.body.now in
     let out = s.args.out.now in
     let room : length (our_header ++ bytes) ≤ length out = omega (arith, d.ensures) in
     let x = done (our_header ++ bytes) true out refl room in
-    let n : d.result + 2 ≡ length (our_header ++ bytes) = omega (arith, d.ensures) in
-    (ap (written 0) n ∙ x.0, header_stored bytes out c.insert.new.out room c.insert.ensures ∙ x.1) in record { result = both.0; buffer = both.1 }
+    let n : d.result + 2 ≡ length (our_header ++ bytes) = omega (arith, d.ensures) in record { result = ap (written 0) n ∙ x.0; buffer = header_stored bytes out c.insert.new.out room c.insert.ensures ∙ x.1 }

@@ -18,20 +18,18 @@ use Rattle.wrapper.proofs.write_wrapped.Goals as goal
 
 pub returns-then-out-lt-WRAPPER_BYTES : goal.returns-then-out-lt-WRAPPER_BYTES
 returns-then-out-lt-WRAPPER_BYTES c =
-    let both = let s = c in
-    let x = no_room (payload s.args.r) (valid s.args.r) s.args.out.now c.if-out-lt-WRAPPER_BYTES.true in
-    (c.without_room.ensures ∙ ap without_room c.is_valid.ensures ∙ x.0, x.1) in record { result = both.0; buffer = both.1 }
+    let s = c in
+    let x = no_room (payload s.args.r) (valid s.args.r) s.args.out.now c.if-out-lt-WRAPPER_BYTES.true in record { result = c.without_room.ensures ∙ ap without_room c.is_valid.ensures ∙ x.0; buffer = x.1 }
 
 pub returns-then-data-ne0 : goal.returns-then-data-ne0
 returns-then-data-ne0 c =
-    let both = let s = c in
+    let s = c in
     let d = c.write_data-data in
     let r = s.args.r in
     let out = s.args.out.now in
     let room : 8 ≤ length out = omega arith in
     let x = refused_behind (payload r) (valid r) out room d.result (d.ensures.result ∙ ap (writtenAs (payload r) (valid r)) (part_is out)) c.if-data-ne0.true in
-    let p = d.ensures.buffer ∙ ap (bufferAs (payload r) (valid r)) (part_is out) ∙ x.1 in
-    (x.0, put_behind out d.new.out room ∙ ap (λ (l : List ℕ). take 8 out ++ l) p ∙ take-append-drop 8 out ∙ x.2) in record { result = both.0; buffer = both.1 }
+    let p = d.ensures.buffer ∙ ap (bufferAs (payload r) (valid r)) (part_is out) ∙ x.1 in record { result = x.0; buffer = put_behind out d.new.out room ∙ ap (λ (l : List ℕ). take 8 out ++ l) p ∙ take-append-drop 8 out ∙ x.2 }
 
 pub overflow_add-result : goal.overflow_add-result
 overflow_add-result c =
@@ -45,12 +43,11 @@ overflow_add-result c =
 
 pub returns : goal.returns
 returns c =
-    let both = let s = c in
+    let s = c in
     let d = c.write_data-data in
     let r = s.args.r in
     let out = s.args.out.now in
     let room : 8 ≤ length out = omega arith in
     let x = written_behind (payload r) (valid r) out room d.result (d.ensures.result ∙ ap (writtenAs (payload r) (valid r)) (part_is out)) c.if-data-ne0.false in
     let p = d.ensures.buffer ∙ ap (bufferAs (payload r) (valid r)) (part_is out) in
-    let b = ap (drop 8) (put_behind out d.new.out room) ∙ drop_at (take 8 out) d.new.out 8 (length-take-le 8 out room) ∙ p in
-    (x.0, c.put_wrapper.ensures ∙ ap (λ (l : List ℕ). wrapper_bytes ++ l) b ∙ x.1) in record { result = both.0; buffer = both.1 }
+    let b = ap (drop 8) (put_behind out d.new.out room) ∙ drop_at (take 8 out) d.new.out 8 (length-take-le 8 out room) ∙ p in record { result = x.0; buffer = c.put_wrapper.ensures ∙ ap (λ (l : List ℕ). wrapper_bytes ++ l) b ∙ x.1 }

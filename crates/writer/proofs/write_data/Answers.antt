@@ -26,8 +26,7 @@ pub returns-then-out-n : goal.returns-then-out-n
 returns-then-out-n c =
     let judged : valid c.args.r ≡ true =
     sym c.is_valid.ensures ∙ c.if-is_valid.true in
-    let both = let s = c in
-    short (payload s.args.r) (valid s.args.r) s.args.out.now (judged) (omega (arith, c.bytes_needed-n.ensures)) in record { result = both.0; buffer = both.1 }
+    let s = c in let both = short (payload s.args.r) (valid s.args.r) s.args.out.now (judged) (omega (arith, c.bytes_needed-n.ensures)) in record { result = both.0; buffer = both.1 }
 
 pub put_payload-requires : goal.put_payload-requires
 put_payload-requires c =
@@ -40,17 +39,14 @@ pub returns-else-out-n : goal.returns-else-out-n
 returns-else-out-n c =
     let judged : valid c.args.r ≡ true =
     sym c.is_valid.ensures ∙ c.if-is_valid.true in
-    let both = let s = c in
+    let s = c in
     let r = s.args.r in
     let n = c.bytes_needed-n.ensures in
     let put = c.put_payload in
     let room : length (payload r) ≤ length s.args.out.now = omega (arith, n) in
     let d = done (payload r) (valid r) s.args.out.now (judged) room in
     let bytes = all_bytes put.new.out (λ i. (c.type_inv.out i).fits) in
-    let even : length (all_bits (elements r)) % 8 ≡ 0 = omega (arith, whole r, length-all (elements r)) in
-    (rw n d.0, all_written put.ensures even (omega (arith, length-all (elements r), bits_of_bytes r)) bytes ∙ d.1) in record { result = both.0; buffer = both.1 }
+    let even : length (all_bits (elements r)) % 8 ≡ 0 = omega (arith, whole r, length-all (elements r)) in record { result = rw n d.0; buffer = all_written put.ensures even (omega (arith, length-all (elements r), bits_of_bytes r)) bytes ∙ d.1 }
 
 pub returns-else-is_valid : goal.returns-else-is_valid
-returns-else-is_valid c =
-    let both = let s = c in
-    bad (payload s.args.r) (valid s.args.r) s.args.out.now (sym c.is_valid.ensures ∙ c.if-is_valid.false) in record { result = both.0; buffer = both.1 }
+returns-else-is_valid c = let s = c in let both = bad (payload s.args.r) (valid s.args.r) s.args.out.now (sym c.is_valid.ensures ∙ c.if-is_valid.false) in record { result = both.0; buffer = both.1 }
