@@ -4,7 +4,7 @@ use lib.ListN.{drop}
 use Rattle.tree.specs.Bits.{bits_of}
 use Rattle.syntax.specs.Data.{bare_data}
 use Rattle.cause.specs.Cause.{cause_in}
-use Rattle.cause.proofs.Functions.{wrong_identifier_lem, wrong_version_lem, too_many_blocks, of_a_block}
+use Rattle.cause.proofs.Functions.{wrong_identifier_lem, wrong_version_lem, too_many_blocks_lem, of_a_block}
 use borrow.Author.Rules.{rules}
 use Rattle.cause.proofs.of_code.Goals as goal
 
@@ -24,7 +24,7 @@ pub returns-then-number-eq-TOO_MANY_BLOCKS : goal.returns-then-number-eq-TOO_MAN
 returns-then-number-eq-TOO_MANY_BLOCKS c =
     let s = c in
     let a = s.args in
-    c.range-then-number-eq-TOO_MANY_BLOCKS.ensures ∙ sym (too_many_blocks a.number a.v (drop a.at (bits_of a.s.now)) a.element (cause_in (bare_data (bits_of a.s.now))) s.requires.1 c.if-number-eq-TOO_MANY_BLOCKS.true)
+    c.range-then-number-eq-TOO_MANY_BLOCKS.ensures ∙ sym (too_many_blocks_lem a.number a.v (drop a.at (bits_of a.s.now)) a.element (cause_in (bare_data (bits_of a.s.now))) s.requires.1 c.if-number-eq-TOO_MANY_BLOCKS.true)
 
 pub of_block-requires : goal.of_block-requires
 of_block-requires c =
