@@ -25,8 +25,8 @@ note_message-first-requires c =
     let place : (c.loop-kind.at < c.in-Is.start)
     × (c.in-Is.start + c.in-Is.size ≤ length c.args.s.now) =
     let l = c.loop-kind in
-    let g = c.kind-1.given.0 in
-    reached_place c.args.s.now l.first l.at l.invariant c.in-Is.kind c.in-Is.start c.in-Is.size (is) in
+    let g = c.in-Is in
+    reached_place c.args.s.now l.first l.at l.invariant g.kind g.start g.size (is) in
     (c.loop-kind.invariant.within, (place).1)
 
 pub overflow_add-at : goal.overflow_add-at
@@ -36,8 +36,8 @@ overflow_add-at c =
     let place : (c.loop-kind.at < c.in-Is.start)
     × (c.in-Is.start + c.in-Is.size ≤ length c.args.s.now) =
     let l = c.loop-kind in
-    let g = c.kind-1.given.0 in
-    reached_place c.args.s.now l.first l.at l.invariant c.in-Is.kind c.in-Is.start c.in-Is.size (is) in
+    let g = c.in-Is in
+    reached_place c.args.s.now l.first l.at l.invariant g.kind g.start g.size (is) in
     omega (arith, (place).1)
 
 pub ends_at-requires : goal.ends_at-requires
@@ -47,8 +47,8 @@ ends_at-requires c =
     let place : (c.loop-kind.at < c.in-Is.start)
     × (c.in-Is.start + c.in-Is.size ≤ length c.args.s.now) =
     let l = c.loop-kind in
-    let g = c.kind-1.given.0 in
-    reached_place c.args.s.now l.first l.at l.invariant c.in-Is.kind c.in-Is.start c.in-Is.size (is) in
+    let g = c.in-Is in
+    reached_place c.args.s.now l.first l.at l.invariant g.kind g.start g.size (is) in
     (place).1
 
 pub returns-then-ends_at : goal.returns-then-ends_at
@@ -58,10 +58,10 @@ returns-then-ends_at c =
     let d = c in
     let l = d.loop-kind in
     let s = d.args.s.now in
-    let g = d.kind-1.given.0 in
+    let g = d.in-Is in
     let n = c.note_message-first in
     rw c.found_first.ensures
-    (reached_all s l.first l.at l.invariant c.in-Is.kind c.in-Is.start c.in-Is.size (is) n.result n.ensures.0 n.ensures.1 (sym c.ends_at.ensures ∙ c.if-ends_at.true), within_first s n.result n.ensures.1)
+    (reached_all s l.first l.at l.invariant g.kind g.start g.size (is) n.result n.ensures.0 n.ensures.1 (sym c.ends_at.ensures ∙ c.if-ends_at.true), within_first s n.result n.ensures.1)
 
 pub loop-kind-smaller : goal.loop-kind-smaller
 loop-kind-smaller c =
@@ -70,8 +70,8 @@ loop-kind-smaller c =
     let place : (c.loop-kind.at < c.in-Is.start)
     × (c.in-Is.start + c.in-Is.size ≤ length c.args.s.now) =
     let l = c.loop-kind in
-    let g = c.kind-1.given.0 in
-    reached_place c.args.s.now l.first l.at l.invariant c.in-Is.kind c.in-Is.start c.in-Is.size (is) in
+    let g = c.in-Is in
+    reached_place c.args.s.now l.first l.at l.invariant g.kind g.start g.size (is) in
     let p = place in
     omega (arith, p.0, p.1)
 
@@ -82,6 +82,6 @@ loop-kind-preserved c =
     let d = c in
     let l = d.loop-kind in
     let s = d.args.s.now in
-    let g = d.kind-1.given.0 in
+    let g = d.in-Is in
     let n = c.note_message-first in
-    reached_more s l.first l.at l.invariant c.in-Is.kind c.in-Is.start c.in-Is.size (is) n.result n.ensures.0 n.ensures.1 (sym c.ends_at.ensures ∙ c.if-ends_at.false)
+    reached_more s l.first l.at l.invariant g.kind g.start g.size (is) n.result n.ensures.0 n.ensures.1 (sym c.ends_at.ensures ∙ c.if-ends_at.false)

@@ -17,7 +17,7 @@ use Rattle.messages.proofs.write_message.Goals as goal
 pub returns-then-out-lt3 : goal.returns-then-out-lt3
 returns-then-out-lt3 c =
     let long : length c.args.r.places ≡ most_blocks =
-    sym (length-map c.args.r.places _) ∙ c.well_formed.0.1.1.1.1.0.1.0.1 in
+    c.well_formed.0.1.1.1.1.0.1.0.1 in
     let bytes-are : valid c.args.r ≡ true → message_rbsp c.args.r ≡ rbsp_of (wrapped_payload c.args.r) =
     rbsp_is c.args.r (long) in
     let s = c in
@@ -27,7 +27,7 @@ returns-then-out-lt3 c =
 pub returns-then-data-ne0 : goal.returns-then-data-ne0
 returns-then-data-ne0 c =
     let long : length c.args.r.places ≡ most_blocks =
-    sym (length-map c.args.r.places _) ∙ c.well_formed.0.1.1.1.1.0.1.0.1 in
+    c.well_formed.0.1.1.1.1.0.1.0.1 in
     let bytes-are : valid c.args.r ≡ true → message_rbsp c.args.r ≡ rbsp_of (wrapped_payload c.args.r) =
     rbsp_is c.args.r (long) in
     let s = c in
@@ -39,7 +39,7 @@ returns-then-data-ne0 c =
 pub overflow_cast-out-2 : goal.overflow_cast-out-2
 overflow_cast-out-2 c =
     let long : length c.args.r.places ≡ most_blocks =
-    sym (length-map c.args.r.places _) ∙ c.well_formed.0.1.1.1.1.0.1.0.1 in
+    c.well_formed.0.1.1.1.1.0.1.0.1 in
     let bytes-are : valid c.args.r ≡ true → message_rbsp c.args.r ≡ rbsp_of (wrapped_payload c.args.r) =
     rbsp_is c.args.r (long) in
     let fits-within : (c.write_wrapped-data.result.bytes ≤ 232) × (c.write_wrapped-data.result.bytes + 3 ≤ length c.args.out.now) =
@@ -57,7 +57,7 @@ bounds-out-1 c = simp length-set (omega arith)
 pub overflow_add-out : goal.overflow_add-out
 overflow_add-out c =
     let long : length c.args.r.places ≡ most_blocks =
-    sym (length-map c.args.r.places _) ∙ c.well_formed.0.1.1.1.1.0.1.0.1 in
+    c.well_formed.0.1.1.1.1.0.1.0.1 in
     let bytes-are : valid c.args.r ≡ true → message_rbsp c.args.r ≡ rbsp_of (wrapped_payload c.args.r) =
     rbsp_is c.args.r (long) in
     let fits-within : (c.write_wrapped-data.result.bytes ≤ 232) × (c.write_wrapped-data.result.bytes + 3 ≤ length c.args.out.now) =
@@ -72,7 +72,7 @@ overflow_add-out c =
 pub bounds-out-n : goal.bounds-out-n
 bounds-out-n c =
     let long : length c.args.r.places ≡ most_blocks =
-    sym (length-map c.args.r.places _) ∙ c.well_formed.0.1.1.1.1.0.1.0.1 in
+    c.well_formed.0.1.1.1.1.0.1.0.1 in
     let bytes-are : valid c.args.r ≡ true → message_rbsp c.args.r ≡ rbsp_of (wrapped_payload c.args.r) =
     rbsp_is c.args.r (long) in
     let fits-within : (c.write_wrapped-data.result.bytes ≤ 232) × (c.write_wrapped-data.result.bytes + 3 ≤ length c.args.out.now) =
@@ -87,7 +87,7 @@ bounds-out-n c =
 pub overflow_add-result : goal.overflow_add-result
 overflow_add-result c =
     let long : length c.args.r.places ≡ most_blocks =
-    sym (length-map c.args.r.places _) ∙ c.well_formed.0.1.1.1.1.0.1.0.1 in
+    c.well_formed.0.1.1.1.1.0.1.0.1 in
     let bytes-are : valid c.args.r ≡ true → message_rbsp c.args.r ≡ rbsp_of (wrapped_payload c.args.r) =
     rbsp_is c.args.r (long) in
     let fits-within : (c.write_wrapped-data.result.bytes ≤ 232) × (c.write_wrapped-data.result.bytes + 3 ≤ length c.args.out.now) =
@@ -102,7 +102,7 @@ overflow_add-result c =
 pub returns : goal.returns
 returns c =
     let long : length c.args.r.places ≡ most_blocks =
-    sym (length-map c.args.r.places _) ∙ c.well_formed.0.1.1.1.1.0.1.0.1 in
+    c.well_formed.0.1.1.1.1.0.1.0.1 in
     let bytes-are : valid c.args.r ≡ true → message_rbsp c.args.r ≡ rbsp_of (wrapped_payload c.args.r) =
     rbsp_is c.args.r (long) in
     let s = c in

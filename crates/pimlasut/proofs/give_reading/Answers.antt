@@ -14,6 +14,6 @@ returns-then-reading-ne0 c = let a = c.args in let both = (refl, (kept a.reading
 pub returns : goal.returns
 returns c =
     let long : length c.args.reading.«record».places ≡ most_blocks =
-    sym (length-map c.args.reading.«record».places _) ∙ c.well_formed.0.1.1.1.1.1.1.1.1.0.1.1.1.1.0.1.0.1 in
+    c.well_formed.0.1.1.1.1.1.1.1.1.0.1.1.1.1.0.1.0.1 in
     let s = c in
     let r = s.args.reading.«record» in let both = (sym c.if-reading-ne0.false, (c.put_record.ensures ∙ pasted_whole s.args.numbers.now (flat r) flat_length s.requires.0 (length-flat r (long)), rw c.mark.ensures at c.put_facts.ensures)) in record { result = both.0; «record» = both.1; facts = both.2 }

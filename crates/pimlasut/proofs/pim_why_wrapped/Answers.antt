@@ -12,7 +12,7 @@ pub give_written-requires : goal.give_written-requires
 give_written-requires c =
     let short : length (reason_text c.read_wrapped-reading.result) ≤ length longest =
     let q = c.read_wrapped-reading.result in
-    let g = c.read_wrapped-reading.type-inv in
+    let g = c.read_wrapped-reading.type_inv in
     let why = g.1.1.1.1.1.1.1.0 in
     no_reason_is_longer q.result q.offset q.cause g.1.1.0.1 g.1.1.1.1.1.1.0.1 why.1.1.1.1.0.1 why.1.1.1.1.1.0.1 why.1.1.1.1.1.1.0.1 in
     let made = c in

@@ -15,14 +15,14 @@ use Rattle.sei.proofs.write_unit.Goals as goal
 pub returns-then-message-ne0 : goal.returns-then-message-ne0
 returns-then-message-ne0 c =
     let long : length c.args.r.places ≡ most_blocks =
-    sym (length-map c.args.r.places _) ∙ c.well_formed.0.1.1.1.1.0.1.0.1 in
+    c.well_formed.0.1.1.1.1.0.1.0.1 in
     let d = c in
     let s = d in let both = message_refused s.args.r (long) (replicate 235 0) (length-replicate {A = ℕ} 235 0) d.write_message-message.result d.write_message-message.ensures.result s.args.out.now c.if-message-ne0.true in record { result = both.0; buffer = both.1 }
 
 pub slice_bounds-body-end : goal.slice_bounds-body-end
 slice_bounds-body-end c =
     let long : length c.args.r.places ≡ most_blocks =
-    sym (length-map c.args.r.places _) ∙ c.well_formed.0.1.1.1.1.0.1.0.1 in
+    c.well_formed.0.1.1.1.1.0.1.0.1 in
     let message : (valid c.args.r ≡ true)
     × (c.write_message-message.result.bytes ≤ length c.write_message-message.new.out)
     × (take c.write_message-message.result.bytes c.write_message-message.new.out ≡ message_rbsp c.args.r) =
@@ -38,7 +38,7 @@ slice_bounds-body-end c =
 pub slice_bounds-write_escaped-end : goal.slice_bounds-write_escaped-end
 slice_bounds-write_escaped-end c =
     let long : length c.args.r.places ≡ most_blocks =
-    sym (length-map c.args.r.places _) ∙ c.well_formed.0.1.1.1.1.0.1.0.1 in
+    c.well_formed.0.1.1.1.1.0.1.0.1 in
     let message : (valid c.args.r ≡ true)
     × (c.write_message-message.result.bytes ≤ length c.write_message-message.new.out)
     × (take c.write_message-message.result.bytes c.write_message-message.new.out ≡ message_rbsp c.args.r) =
@@ -54,7 +54,7 @@ slice_bounds-write_escaped-end c =
 pub write_escaped-requires : goal.write_escaped-requires
 write_escaped-requires c =
     let long : length c.args.r.places ≡ most_blocks =
-    sym (length-map c.args.r.places _) ∙ c.well_formed.0.1.1.1.1.0.1.0.1 in
+    c.well_formed.0.1.1.1.1.0.1.0.1 in
     let message : (valid c.args.r ≡ true)
     × (c.write_message-message.result.bytes ≤ length c.write_message-message.new.out)
     × (take c.write_message-message.result.bytes c.write_message-message.new.out ≡ message_rbsp c.args.r) =
@@ -73,7 +73,7 @@ write_escaped-requires c =
 pub returns : goal.returns
 returns c =
     let long : length c.args.r.places ≡ most_blocks =
-    sym (length-map c.args.r.places _) ∙ c.well_formed.0.1.1.1.1.0.1.0.1 in
+    c.well_formed.0.1.1.1.1.0.1.0.1 in
     let message : (valid c.args.r ≡ true)
     × (c.write_message-message.result.bytes ≤ length c.write_message-message.new.out)
     × (take c.write_message-message.result.bytes c.write_message-message.new.out ≡ message_rbsp c.args.r) =
