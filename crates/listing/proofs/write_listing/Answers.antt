@@ -39,16 +39,6 @@ slice_bounds-page-end c =
     let page : length put.new.out ≡ length (listing longest) = put.ensures.same ∙ sym longest_bytes in
     omega (arith, (typed_whole put.ensures).1, page, roomy)
 
-pub LOST-slice_aggregate_copy : goal.LOST-slice_aggregate_copy
-LOST-slice_aggregate_copy c =
-    let put = typed_whole c.put_listing-n.ensures in
-    rw put.0 put.1
-
-pub LOST-copy_requires : goal.LOST-copy_requires
-LOST-copy_requires c =
-    let put = typed_whole c.put_listing-n.ensures in
-    rw put.0 (omega (arith, put.1))
-
 pub returns-else-out-n : goal.returns-else-out-n
 returns-else-out-n c =
     let judged : listable c.args.q ≡ true =
@@ -56,8 +46,7 @@ returns-else-out-n c =
     let s = c in
     let q = s.args.q in
     let put = typed_whole c.put_listing-n.ensures in
-    let copied = rw (put.0, take-length (listing q)) at c.copy.ensures.1 in
-    let d = done (listing q) (listable q) s.args.out.now (judged) (omega (arith, put.1)) in record { result = rw put.1 d.0; buffer = copied ∙ d.1 }
+    let d = done (listing q) (listable q) s.args.out.now (judged) (omega (arith, put.1)) in record { result = rw put.1 d.0; buffer = rw (c.copy_from_slice.ensures.after, put.0, put.1) d.1 }
 
 pub returns-else-is_listable : goal.returns-else-is_listable
 returns-else-is_listable c = let s = c in let both = bad (listing s.args.q) (listable s.args.q) s.args.out.now (sym c.is_listable.ensures ∙ c.if-is_listable.false) in record { result = both.0; buffer = both.1 }

@@ -18,14 +18,6 @@ overflow_add-end c =
     found_within c.args.s.now f.result g.start g.size g.is f.ensures.1 in
     omega (arith, within)
 
-pub LOST-slice_bounds_read_wrapped_end : goal.LOST-slice_bounds_read_wrapped_end
-LOST-slice_bounds_read_wrapped_end c =
-    let within : c.in-At.start + c.in-At.size ≤ length c.args.s.now =
-    let g = c.in-At in
-    let f = c.find_ours in
-    found_within c.args.s.now f.result g.start g.size g.is f.ensures.1 in
-    omega (arith, within)
-
 pub returns-in-Broken : goal.returns-in-Broken
 returns-in-Broken c =
     let s = c.args.s.now in

@@ -31,20 +31,9 @@ slice_bounds-page-end c =
     let page : length put.new.out ≡ length longest = put.ensures.same ∙ sym longest_bytes in
     omega (arith, (typed_whole put.ensures).1, page, roomy)
 
-pub LOST-slice_aggregate_copy : goal.LOST-slice_aggregate_copy
-LOST-slice_aggregate_copy c =
-    let put = typed_whole c.put_reason-n.ensures in
-    rw put.0 put.1
-
-pub LOST-copy_requires : goal.LOST-copy_requires
-LOST-copy_requires c =
-    let put = typed_whole c.put_reason-n.ensures in
-    rw put.0 (omega (arith, put.1))
-
 pub returns : goal.returns
 returns c =
     let s = c in
     let t = reason_text s.args.q in
     let put = typed_whole c.put_reason-n.ensures in
-    let copied = rw (put.0, take-length t) at c.copy.ensures.1 in
-    let d = done t true s.args.out.now refl (omega (arith, put.1)) in record { result = rw put.1 d.0; buffer = copied ∙ d.1 }
+    let d = done t true s.args.out.now refl (omega (arith, put.1)) in record { result = rw put.1 d.0; buffer = rw (c.copy_from_slice.ensures.after, put.0, put.1) d.1 }

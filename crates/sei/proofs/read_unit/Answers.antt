@@ -38,16 +38,6 @@ slice_bounds-read_body-count c =
     (omega (arith, ap length a.all), a.few) in
     (long).0
 
-pub LOST-slice_bounds_read_body_start : goal.LOST-slice_bounds_read_body_start
-LOST-slice_bounds_read_body_start c =
-    let is_admitted_lem : admitted c.args.input.now ≡ true =
-    sym c.is_admitted.ensures ∙ not-false c.is_admitted.result c.if-not-is_admitted.false in
-    let long : (2 ≤ length c.args.input.now) × (length c.args.input.now ≤ most_unit_bytes) =
-    let u = c.args.input.now in
-    let a = admitted_is u (is_admitted_lem) in
-    (omega (arith, ap length a.all), a.few) in
-    (long).0
-
 pub read_body-requires : goal.read_body-requires
 read_body-requires c =
     let is_admitted_lem : admitted c.args.input.now ≡ true =

@@ -31,9 +31,6 @@ bounds-out-1 c = simp length-set (omega arith)
 pub slice_bounds-insert-count : goal.slice_bounds-insert-count
 slice_bounds-insert-count c = omega (arith, length_headed c.args.out.now)
 
-pub LOST-slice_bounds_insert_start : goal.LOST-slice_bounds_insert_start
-LOST-slice_bounds_insert_start c = omega (arith, length_headed c.args.out.now)
-
 pub insert-requires : goal.insert-requires
 insert-requires c =
     let s = c in

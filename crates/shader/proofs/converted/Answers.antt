@@ -8,7 +8,7 @@ use Rattle.shader.proofs.Ranges.{Codes, codes}
 use Rattle.shader.proofs.converted.Goals as goal
 
 pub single-requires : goal.single-requires
-single-requires c = (held (c)).target
+single-requires c = (codes c.args.target c.args.slope c.args.offset c.args.power c.args.chroma c.args.gain c.args.weight c.requires).target
 
 pub single-requires-2 : goal.single-requires-2
 single-requires-2 c =

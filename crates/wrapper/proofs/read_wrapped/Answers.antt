@@ -19,8 +19,8 @@ slice_bounds-read_data-count c =
     wrapped_is c.args.input.now (cc) in
     (there).0
 
-pub LOST-slice_bounds_read_data_start : goal.LOST-slice_bounds_read_data_start
-LOST-slice_bounds_read_data_start c =
+pub slice_bounds-read_data-start : goal.slice_bounds-read_data-start
+slice_bounds-read_data-start c =
     let there : (8 ≤ length c.args.input.now) × (bare_data (bits_of (drop 8 c.args.input.now)) ≡ wrapped_data (bits_of c.args.input.now)) =
     wrapped_is c.args.input.now (cc) in
     (there).0
