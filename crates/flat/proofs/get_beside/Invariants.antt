@@ -13,8 +13,9 @@ use Rattle.flat.proofs.Places.{read_to, named_to, part_of, number_in, flag_is, h
 use Rattle.flat.proofs.get_beside.Given as goal
 
 abbrev pub invariant-loop-i : goal.invariant-loop-i
-invariant-loop-i l = let l = take flat_length (drop l.at l.row) in
-    (l.i ≤ 18) × (l.r ≡ read_to l l.i) × (l.named ≡ l.beside && named_to l l.i)
+invariant-loop-i l =
+    let numbers = take flat_length (drop l.at l.row) in
+    (l.i ≤ 18) × (l.r ≡ read_to numbers l.i) × (l.named ≡ l.beside && named_to numbers l.i)
 
 abbrev pub decreases-loop-i : goal.decreases-loop-i
 decreases-loop-i l = 18 - l.i
