@@ -1,14 +1,7 @@
-use Prim.Native.Nat.{◌+◌, ◌*◌, ◌≤◌, ◌<◌, ◌-◌}
+use Prim.Native.Nat.{◌+◌, ◌*◌, ◌≤◌, ◌-◌}
 use mathlib.Core.Path.{◌≡◌}
-use mathlib.Core.Bool.{true, false}
-use mathlib.Core.Logic.{⊎_elim}
-use native.Mathlib.Omega.{arith}
-use lib.ListN.{length, get_or, drop, drop_of_length-le}
-use Rattle.emulation.specs.Emulation.{escaped, escaped_behind, zeros_behind}
-use Rattle.emulation.proofs.Loops.{escaped_step, one_more_zero}
-use Rattle.emulation.proofs.escaped_length.Reads as reads
-use Rattle.emulation.proofs.escaped_length.Lts as lts
-use Rattle.emulation.proofs.zeros_behind.Reads as zeros-behind-reads
+use lib.ListN.{length, drop}
+use Rattle.emulation.specs.Emulation.{escaped, escaped_behind}
 use Rattle.emulation.proofs.escaped_length.Given as goal
 
 abbrev pub invariant-loop-i : goal.invariant-loop-i

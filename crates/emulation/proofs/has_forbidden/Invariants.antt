@@ -1,10 +1,7 @@
 use Prim.Native.Nat.{◌≤◌, ◌-◌}
-use mathlib.Core.Path.{◌≡◌, refl, sym, ◌∙◌}
-use mathlib.Core.Bool.{true, false}
-use native.Mathlib.Omega.{arith}
-use lib.ListN.{length, drop, drop_of_length-le}
-use Rattle.emulation.specs.Emulation.{forbidden, begins_forbidden}
-use Rattle.emulation.proofs.Loops.{forbidden_step}
+use mathlib.Core.Path.{◌≡◌}
+use lib.ListN.{length, drop}
+use Rattle.emulation.specs.Emulation.{forbidden}
 use Rattle.emulation.proofs.has_forbidden.Given as goal
 
 abbrev pub invariant-loop-i : goal.invariant-loop-i

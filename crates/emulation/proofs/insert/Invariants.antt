@@ -1,14 +1,7 @@
-use Prim.Native.Nat.{◌+◌, ◌≤◌, ◌<◌, ◌-◌}
-use mathlib.Core.Bool.{true, false}
-use mathlib.Core.Logic.{⊎_elim}
-use mathlib.Core.List.{◌∷◌}
-use native.Mathlib.Omega.{arith}
-use lib.ListN.{length, get_or, drop, drop_of_length-le}
-use Rattle.emulation.specs.Emulation.{escaped, escaped_behind, zeros_behind}
-use Rattle.emulation.proofs.Loops.{escaped_step, one_more_zero, Filled, none_filled, one_filled, all_filled}
-use Rattle.emulation.proofs.insert.Reads as reads
-use Rattle.emulation.proofs.insert.Lts as lts
-use Rattle.emulation.proofs.zeros_behind.Reads as zeros-behind-reads
+use Prim.Native.Nat.{◌≤◌, ◌-◌}
+use lib.ListN.{length, drop}
+use Rattle.emulation.specs.Emulation.{escaped, escaped_behind}
+use Rattle.emulation.proofs.Loops.{Filled}
 use Rattle.emulation.proofs.insert.Given as goal
 
 abbrev pub invariant-loop-i : goal.invariant-loop-i

@@ -1,10 +1,7 @@
-use Prim.Native.Nat.{◌≤◌, ◌<◌, ◌-◌}
-use mathlib.Core.Bool.{true, false}
-use mathlib.Core.Logic.{⊎_elim}
-use native.Mathlib.Omega.{arith}
-use lib.ListN.{length, get_or, drop, drop_of_length-le}
+use Prim.Native.Nat.{◌≤◌, ◌-◌}
+use lib.ListN.{length, drop}
 use Rattle.emulation.specs.Emulation.{removed, removed_behind}
-use Rattle.emulation.proofs.Loops.{removed_shorter, removed_step, one_more_zero, Filled, none_filled, one_filled, all_filled}
+use Rattle.emulation.proofs.Loops.{Filled}
 use Rattle.emulation.proofs.remove.Given as goal
 
 abbrev pub invariant-loop-i : goal.invariant-loop-i

@@ -1,6 +1,5 @@
 -- `emulation::zeros_behind` meets its contract.
 use native.Mathlib.Numerals.{add-one}
-use borrow.Author.Rules.{rules}
 use borrow.Author.Tests.{eq-eqb, ne_eqb}
 use Rattle.emulation.proofs.zeros_behind.Goals as goal
 
