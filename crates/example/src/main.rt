@@ -2,8 +2,7 @@
 #![tactic(auto)]
 
 use record::{Block, Record};
-
-const OUT: i32 = libc::STDOUT_FILENO;
+use std::io;
 
 // The maximum of the scene's PQ range, where the record's first block tells it, else 0.
 fn brightest(record: Record) -> u16 {
@@ -16,19 +15,24 @@ fn brightest(record: Record) -> u16 {
     }
 }
 
-fn tell(input: &[u8]) {
+fn tell(rt: &impl Print, input: &[u8]) -> io::Result<()> {
     let reading = wrapper::read_wrapped(input);
     if reading.result == 0 {
-        io::write_all(OUT, b"brightest: ");
-        io::print_decimal(OUT, brightest(reading.record) as u64);
+        let max_pq = brightest(reading.record);
+        println!(rt; "brightest: {max_pq}")
     } else {
-        io::write_all(OUT, b"refused: ");
-        io::print_decimal(OUT, reading.result as u64);
+        let number = reading.result;
+        println!(rt; "refused: {number}")
     }
-    io::write_all(OUT, b"\n");
 }
 
-fn main() {
-    tell(b"\xB5\x00\x31\x47\x41\x39\x34\x09\x5A\x30\x08\x00\x60\x02\x00\x00");
-    tell(b"\xB5\x00\x31\x47\x41\x39\x34\x09\x5A\x30\x08\x00\x20\x06\x00\x00");
+fn main(rt: HostRuntime) -> io::Result<()> {
+    tell(
+        &rt,
+        b"\xB5\x00\x31\x47\x41\x39\x34\x09\x5A\x30\x08\x00\x60\x02\x00\x00",
+    )?;
+    tell(
+        &rt,
+        b"\xB5\x00\x31\x47\x41\x39\x34\x09\x5A\x30\x08\x00\x20\x06\x00\x00",
+    )
 }

@@ -4,118 +4,137 @@
 #![tactic(auto)]
 
 use reader::Reading;
-
-const OUT: i32 = libc::STDOUT_FILENO;
+use std::io;
+use std::io::Write;
 
 // Where a payload is refused, if it is: at which bit of the data, or at which byte of the wrapper.
-fn place(res: u8, offset: u32, in_wrapper: bool) {
+fn place<W: Write>(out: &mut W, res: u8, offset: u32, in_wrapper: bool) -> io::Result<()> {
     if res == 0 {
-        return;
+        return Ok(());
     }
     if in_wrapper {
-        io::write_all(OUT, b"byte=");
+        writeln!(out, "byte={offset}")
     } else {
-        io::write_all(OUT, b"bit=");
+        writeln!(out, "bit={offset}")
     }
-    io::print_decimal(OUT, offset as u64);
-    io::write_all(OUT, b"\n");
 }
 
-fn outcome(name: &[u8], form: &[u8], reading: Reading) {
-    io::write_all(OUT, name);
-    io::write_all(OUT, form);
+fn outcome<W: Write>(out: &mut W, name: &[u8], form: &[u8], reading: Reading) -> io::Result<()> {
+    out.write_all(name)?;
+    out.write_all(form)?;
     let mut text = [0u8; listing::BYTES];
     let listed = listing::write_listing(reading, &mut text);
-    io::write_all(OUT, &text[..listed.bytes]);
-    place(reading.result, reading.offset, reading.in_wrapper);
+    out.write_all(&text[..listed.bytes])?;
+    place(out, reading.result, reading.offset, reading.in_wrapper)
 }
 
-fn wrapped(name: &[u8], input: &[u8]) {
-    outcome(name, b", wrapped\n", wrapper::read_wrapped(input));
+fn wrapped<W: Write>(out: &mut W, name: &[u8], input: &[u8]) -> io::Result<()> {
+    outcome(out, name, b", wrapped\n", wrapper::read_wrapped(input))
 }
 
 // Data behind the eight wrapper bytes: read without them, and with them.
-fn both(name: &[u8], input: &[u8]) {
+fn both<W: Write>(out: &mut W, name: &[u8], input: &[u8]) -> io::Result<()> {
     if 8 <= input.len() {
-        outcome(name, b", bare\n", reader::read_data(&input[8..]));
+        outcome(out, name, b", bare\n", reader::read_data(&input[8..]))?;
     }
-    wrapped(name, input);
+    wrapped(out, name, input)
 }
 
-fn starred() {
-    both(b"no bytes", b"\xB5\x00\x31\x47\x41\x39\x34\x09");
-    both(b"00", b"\xB5\x00\x31\x47\x41\x39\x34\x09\x00");
-    both(b"00 00", b"\xB5\x00\x31\x47\x41\x39\x34\x09\x00\x00");
+fn starred<W: Write>(out: &mut W) -> io::Result<()> {
+    both(out, b"no bytes", b"\xB5\x00\x31\x47\x41\x39\x34\x09")?;
+    both(out, b"00", b"\xB5\x00\x31\x47\x41\x39\x34\x09\x00")?;
+    both(out, b"00 00", b"\xB5\x00\x31\x47\x41\x39\x34\x09\x00\x00")?;
     both(
+        out,
         b"00 00 00 00",
         b"\xB5\x00\x31\x47\x41\x39\x34\x09\x00\x00\x00\x00",
-    );
-    both(b"50", b"\xB5\x00\x31\x47\x41\x39\x34\x09\x50");
-    both(b"51", b"\xB5\x00\x31\x47\x41\x39\x34\x09\x51");
-    both(b"5C", b"\xB5\x00\x31\x47\x41\x39\x34\x09\x5C");
+    )?;
+    both(out, b"50", b"\xB5\x00\x31\x47\x41\x39\x34\x09\x50")?;
+    both(out, b"51", b"\xB5\x00\x31\x47\x41\x39\x34\x09\x51")?;
+    both(out, b"5C", b"\xB5\x00\x31\x47\x41\x39\x34\x09\x5C")?;
     both(
+        out,
         b"level 1",
         b"\xB5\x00\x31\x47\x41\x39\x34\x09\x5A\x30\x08\x00\x60\x02\x00\x00",
-    );
+    )?;
     both(
+        out,
         b"level 1, last byte 01",
         b"\xB5\x00\x31\x47\x41\x39\x34\x09\x5A\x30\x08\x00\x60\x02\x00\x01",
-    );
+    )?;
     both(
+        out,
         b"level 1, one more byte",
         b"\xB5\x00\x31\x47\x41\x39\x34\x09\x5A\x30\x08\x00\x60\x02\x00\x00\x00",
-    );
+    )?;
     both(
+        out,
         b"level 1, not in order",
         b"\xB5\x00\x31\x47\x41\x39\x34\x09\x5A\x30\x08\x00\x20\x06\x00\x00",
-    );
+    )?;
     both(
+        out,
         b"level 5",
         b"\xB5\x00\x31\x47\x41\x39\x34\x09\x5A\x10\x0A\x00\x00\x00\x04\x50\x22\x80",
-    );
-    both(b"58 50", b"\xB5\x00\x31\x47\x41\x39\x34\x09\x58\x50");
-    both(b"5A 81 80", b"\xB5\x00\x31\x47\x41\x39\x34\x09\x5A\x81\x80");
+    )?;
+    both(out, b"58 50", b"\xB5\x00\x31\x47\x41\x39\x34\x09\x58\x50")?;
+    both(
+        out,
+        b"5A 81 80",
+        b"\xB5\x00\x31\x47\x41\x39\x34\x09\x5A\x81\x80",
+    )
 }
 
-fn others() {
+fn others<W: Write>(out: &mut W) -> io::Result<()> {
     both(
+        out,
         b"level 1, first 7 bytes",
         b"\xB5\x00\x31\x47\x41\x39\x34\x09\x5A\x30\x08\x00\x60\x02\x00",
-    );
+    )?;
     both(
+        out,
         b"level 1, all three 0",
         b"\xB5\x00\x31\x47\x41\x39\x34\x09\x5A\x30\x08\x00\x00\x00\x00\x00",
-    );
-    both(b"30", b"\xB5\x00\x31\x47\x41\x39\x34\x09\x30");
-    both(b"48", b"\xB5\x00\x31\x47\x41\x39\x34\x09\x48");
-    both(b"58 4C", b"\xB5\x00\x31\x47\x41\x39\x34\x09\x58\x4C");
-    both(b"5A 80 80", b"\xB5\x00\x31\x47\x41\x39\x34\x09\x5A\x80\x80");
+    )?;
+    both(out, b"30", b"\xB5\x00\x31\x47\x41\x39\x34\x09\x30")?;
+    both(out, b"48", b"\xB5\x00\x31\x47\x41\x39\x34\x09\x48")?;
+    both(out, b"58 4C", b"\xB5\x00\x31\x47\x41\x39\x34\x09\x58\x4C")?;
     both(
+        out,
+        b"5A 80 80",
+        b"\xB5\x00\x31\x47\x41\x39\x34\x09\x5A\x80\x80",
+    )?;
+    both(
+        out,
         b"ms_weight thirteen ones",
         b"\xB5\x00\x31\x47\x41\x39\x34\x09\x5A\x18\x04\x00\x00\x00\x00\x00\x00\x00\x00\x01\xFF\xF0",
-    );
+    )?;
     both(
+        out,
         b"ms_weight a one and twelve zeros",
         b"\xB5\x00\x31\x47\x41\x39\x34\x09\x5A\x18\x04\x00\x00\x00\x00\x00\x00\x00\x00\x01\x00\x00",
-    );
+    )?;
     both(
+        out,
         b"ms_weight a zero and twelve ones",
         b"\xB5\x00\x31\x47\x41\x39\x34\x09\x5A\x18\x04\x00\x00\x00\x00\x00\x00\x00\x00\x00\xFF\xF0",
-    );
+    )
 }
 
 // What the wrapper itself gets wrong.
-fn wrappers() {
-    wrapped(b"B5 00 3C", b"\xB5\x00\x3C");
-    wrapped(b"B5 00", b"\xB5\x00");
+fn wrappers<W: Write>(out: &mut W) -> io::Result<()> {
+    wrapped(out, b"B5 00 3C", b"\xB5\x00\x3C")?;
+    wrapped(out, b"B5 00", b"\xB5\x00")?;
     wrapped(
+        out,
         b"last wrapper byte 08",
         b"\xB5\x00\x31\x47\x41\x39\x34\x08\x50",
-    );
+    )
 }
 
-fn main() {
-    starred();
-    others();
-    wrappers();
+fn main(rt: HostRuntime) -> io::Result<()> {
+    let out = &mut rt.stdout();
+    starred(out)?;
+    others(out)?;
+    wrappers(out)
 }

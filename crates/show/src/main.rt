@@ -1,11 +1,23 @@
 // Reads wrapped data from standard input, of a longer input the first 4,096 bytes, and prints its listing.
 #![tactic(auto)]
 
-fn main() {
-    let mut input = io::buffer();
-    let n = io::read_full(libc::STDIN_FILENO, &mut input);
-    let reading = wrapper::read_wrapped(&input[..n]);
+use arrayvec::ArrayVec;
+use std::io;
+use std::io::{Read, Write};
+
+// How much of the input is read.
+const MOST_BYTES: usize = 4096;
+
+// Writes the listing of what the reader gives.
+fn list<R: Read + Drop, W: Write>(reader: R, writer: &mut W) -> io::Result<()> {
+    let mut input: ArrayVec<u8, MOST_BYTES> = ArrayVec::new();
+    io::copy(&mut reader.take(MOST_BYTES as u64), &mut input)?;
+    let reading = wrapper::read_wrapped(input.as_slice());
     let mut text = [0u8; listing::BYTES];
     let listed = listing::write_listing(reading, &mut text);
-    io::write_all(libc::STDOUT_FILENO, &text[..listed.bytes]);
+    writer.write_all(&text[..listed.bytes])
+}
+
+fn main(rt: HostRuntime) -> io::Result<()> {
+    list(rt.stdin(), &mut rt.stdout())
 }

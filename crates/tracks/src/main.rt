@@ -8,9 +8,9 @@
 ghost use Rattle.std.specs.Prelude.{◌≤◌};
 
 use record::{Block, Record};
+use std::io;
+use std::io::Write;
 use track::{InForce, Joined, Placed, Point};
-
-const OUT: i32 = libc::STDOUT_FILENO;
 
 const ROOM: usize = 65;
 
@@ -31,13 +31,13 @@ const OFF: u16 = 5001;
 const HIDDEN: u16 = 5002;
 
 // ---- printing
-fn say(words: &[u8]) {
-    io::write_all(OUT, words);
+fn say<W: Write>(out: &mut W, words: &[u8]) -> io::Result<()> {
+    out.write_all(words)
 }
 
-fn say_number(words: &[u8], n: u64) {
-    io::write_all(OUT, words);
-    io::print_decimal(OUT, n);
+fn say_number<W: Write>(out: &mut W, words: &[u8], n: u64) -> io::Result<()> {
+    out.write_all(words)?;
+    write!(out, "{n}")
 }
 
 fn size_of(v: i32) -> u64 {
@@ -48,11 +48,11 @@ fn size_of(v: i32) -> u64 {
     }
 }
 
-fn say_picture(v: i32) {
+fn say_picture<W: Write>(out: &mut W, v: i32) -> io::Result<()> {
     if v < 0 {
-        say_number(b" -", size_of(v));
+        say_number(out, b" -", size_of(v))
     } else {
-        say_number(b" ", size_of(v));
+        say_number(out, b" ", size_of(v))
     }
 }
 
@@ -110,25 +110,25 @@ fn code_of(shown: Record) -> u16 {
     min_of(b)
 }
 
-fn say_record(shown: Record) {
+fn say_record<W: Write>(out: &mut W, shown: Record) -> io::Result<()> {
     let code = code_of(shown);
     if code == BAD {
-        say(b"not valid");
+        say(out, b"not valid")
     } else if code == EMPTY {
-        say(b"empty");
+        say(out, b"empty")
     } else if code == OFF {
-        say(b"off");
+        say(out, b"off")
     } else {
-        say_number(b"", code as u64);
+        say_number(out, b"", code as u64)
     }
 }
 
-fn say_point(p: Point) {
+fn say_point<W: Write>(out: &mut W, p: Point) -> io::Result<()> {
     let shown = p.record;
-    say_picture(p.picture);
-    say(b"/");
-    say_record(shown);
-    say_number(b"/", p.segment as u64);
+    say_picture(out, p.picture)?;
+    say(out, b"/")?;
+    say_record(out, shown)?;
+    say_number(out, b"/", p.segment as u64)
 }
 
 fn is_cleared(p: Point) -> bool {
@@ -317,15 +317,17 @@ fn follows(p: Point, q: Point) -> bool {
     (p.segment == q.segment)
         & (0 <= p.picture)
         & (0 <= q.picture)
-        & (size_of(q.picture) == std::num::wrapping_add_u64(size_of(p.picture), 1))
-        & (code_of(s) == std::num::wrapping_add_u16(code_of(r), 1))
+        & (size_of(q.picture) == size_of(p.picture).wrapping_add(1))
+        & (code_of(s) == code_of(r).wrapping_add(1))
 }
 
-fn say_entry(p: Point, inner: bool, was_inner: bool) {
+fn say_entry<W: Write>(out: &mut W, p: Point, inner: bool, was_inner: bool) -> io::Result<()> {
     if !inner {
-        say_point(p);
+        say_point(out, p)
     } else if !was_inner {
-        say(b" ..");
+        say(out, b" ..")
+    } else {
+        Ok(())
     }
 }
 
@@ -340,7 +342,7 @@ fn shown(count: usize) -> usize
 }
 
 // The points of a track; of a run of numbers with a run of records, its two ends.
-fn say_points(points: [Point; ROOM], count: usize) {
+fn say_points<W: Write>(out: &mut W, points: [Point; ROOM], count: usize) -> io::Result<()> {
     let n = shown(count);
     let mut goes_on = false;
     let mut was_inner = false;
@@ -350,11 +352,12 @@ fn say_points(points: [Point; ROOM], count: usize) {
         let p = points[k];
         let on = follows(p, points[next]) & (next < n);
         let inner = goes_on & on;
-        say_entry(p, inner, was_inner);
+        say_entry(out, p, inner, was_inner)?;
         was_inner = inner;
         goes_on = on;
         k = next;
     }
+    Ok(())
 }
 
 // Whether the entries past the count are cleared, and whether each entry is what it was.
@@ -377,129 +380,142 @@ fn left_as(before: [Point; ROOM], after: [Point; ROOM], count: usize) -> Left {
     Left { cleared, same }
 }
 
-fn say_left(left: Left) {
+fn say_left<W: Write>(out: &mut W, left: Left) -> io::Result<()> {
     if left.cleared {
-        say(b", rest cleared");
+        say(out, b", rest cleared")?;
     }
     if left.same {
-        say(b", unchanged");
+        say(out, b", unchanged")?;
     }
-    say(b"\n");
+    say(out, b"\n")
 }
 
-fn say_change(before: [Point; ROOM], change: Changed, entries: usize) {
+fn say_change<W: Write>(
+    out: &mut W,
+    before: [Point; ROOM],
+    change: Changed,
+    entries: usize,
+) -> io::Result<()> {
     let after = change.points;
     let count = change.count;
-    say_number(b" in ", entries as u64);
-    say_number(b": result=", change.result as u64);
-    say_number(b" count=", count as u64);
-    say_points(after, count);
-    say_left(left_as(before, after, count));
+    say_number(out, b" in ", entries as u64)?;
+    say_number(out, b": result=", change.result as u64)?;
+    say_number(out, b" count=", count as u64)?;
+    say_points(out, after, count)?;
+    say_left(out, left_as(before, after, count))
 }
 
 // Of a count above 64 no point is printed.
-fn say_table(t: Table) {
+fn say_table<W: Write>(out: &mut W, t: Table) -> io::Result<()> {
     let points = t.points;
     let count = t.count;
-    say_number(b" ", count as u64);
-    say_number(b" of ", t.entries as u64);
+    say_number(out, b" ", count as u64)?;
+    say_number(out, b" of ", t.entries as u64)?;
     if count <= plan::POINTS {
-        say_points(points, count);
+        say_points(out, points, count)?;
     }
+    Ok(())
 }
 
 // ---- cases
-fn place(entries: usize, segment: u16, picture: i32, code: u16) {
+fn place<W: Write>(
+    out: &mut W,
+    entries: usize,
+    segment: u16,
+    picture: i32,
+    code: u16,
+) -> io::Result<()> {
     let r = record_of(code);
-    say(b"place");
-    say_point(point_of(segment, picture, code));
+    say(out, b"place")?;
+    say_point(out, point_of(segment, picture, code))?;
     let t = used();
     let before = t.points;
     say_change(
+        out,
         before,
         placed(r, picture, segment, before, within(entries)),
         entries,
-    );
+    )
 }
 
-fn places() {
-    place(64, 1, 7, 100);
-    place(64, 0, LEAST, 100);
-    place(64, 65535, GREATEST, 100);
-    place(64, 1, 7, OFF);
+fn places<W: Write>(out: &mut W) -> io::Result<()> {
+    place(out, 64, 1, 7, 100)?;
+    place(out, 64, 0, LEAST, 100)?;
+    place(out, 64, 65535, GREATEST, 100)?;
+    place(out, 64, 1, 7, OFF)?;
     // the segment of a record that makes no point stands nowhere
-    place(64, 1, 7, EMPTY);
-    place(64, 1, 7, BAD);
-    place(64, 1, 7, HIDDEN);
-    place(63, 1, 7, 100);
-    place(65, 1, 7, 100);
-    place(0, 1, 7, 100);
-    place(63, 1, 7, EMPTY);
-    place(63, 1, 7, BAD);
-    place(65, 1, 7, BAD);
+    place(out, 64, 1, 7, EMPTY)?;
+    place(out, 64, 1, 7, BAD)?;
+    place(out, 64, 1, 7, HIDDEN)?;
+    place(out, 63, 1, 7, 100)?;
+    place(out, 65, 1, 7, 100)?;
+    place(out, 0, 1, 7, 100)?;
+    place(out, 63, 1, 7, EMPTY)?;
+    place(out, 63, 1, 7, BAD)?;
+    place(out, 65, 1, 7, BAD)
 }
 
-fn look_up(t: Table, picture: i32) {
-    say(b"lookup");
-    say_table(t);
-    say(b" at");
-    say_picture(picture);
+fn look_up<W: Write>(out: &mut W, t: Table, picture: i32) -> io::Result<()> {
+    say(out, b"lookup")?;
+    say_table(out, t)?;
+    say(out, b" at")?;
+    say_picture(out, picture)?;
     let points = t.points;
     let entries = within(t.entries);
     let answer = looked_up(points, entries, t.count, picture);
     let held = answer.point;
-    say_number(b": result=", answer.result as u64);
-    say_number(b" found=", answer.found as u64);
-    say_point(held);
-    say(b"\n");
+    say_number(out, b": result=", answer.result as u64)?;
+    say_number(out, b" found=", answer.found as u64)?;
+    say_point(out, held)?;
+    say(out, b"\n")
 }
 
-fn lookups() {
+fn lookups<W: Write>(out: &mut W) -> io::Result<()> {
     // three points of three segments
     let t = with(with(one(4, -5, 10), 5, 0, 20), 6, 7, 30);
-    look_up(t, LEAST);
-    look_up(t, -6);
-    look_up(t, -5);
-    look_up(t, -1);
-    look_up(t, 0);
-    look_up(t, 6);
-    look_up(t, 7);
-    look_up(t, 8);
-    look_up(t, GREATEST);
+    look_up(out, t, LEAST)?;
+    look_up(out, t, -6)?;
+    look_up(out, t, -5)?;
+    look_up(out, t, -1)?;
+    look_up(out, t, 0)?;
+    look_up(out, t, 6)?;
+    look_up(out, t, 7)?;
+    look_up(out, t, 8)?;
+    look_up(out, t, GREATEST)?;
     let ends = two(1, LEAST, 1, GREATEST, 2);
-    look_up(ends, LEAST);
-    look_up(ends, -2147483647);
-    look_up(ends, 2147483646);
-    look_up(ends, GREATEST);
-    look_up(none(), 0);
-    look_up(two(1, 0, 1, 5, OFF), 5);
+    look_up(out, ends, LEAST)?;
+    look_up(out, ends, -2147483647)?;
+    look_up(out, ends, 2147483646)?;
+    look_up(out, ends, GREATEST)?;
+    look_up(out, none(), 0)?;
+    look_up(out, two(1, 0, 1, 5, OFF), 5)?;
     let full = long(1, 0, 64, 1);
-    look_up(full, 40);
-    look_up(full, 1000);
+    look_up(out, full, 40)?;
+    look_up(out, full, 1000)
 }
 
-fn refused_lookups() {
+fn refused_lookups<W: Write>(out: &mut W) -> io::Result<()> {
     let t = three(1, -5, 10, 0, 20, 7, 30);
-    look_up(sized(t, 63), 7);
-    look_up(sized(t, 65), 7);
-    look_up(sized(none(), 63), 0);
-    look_up(counted(t, 65), 7);
+    look_up(out, sized(t, 63), 7)?;
+    look_up(out, sized(t, 65), 7)?;
+    look_up(out, sized(none(), 63), 0)?;
+    look_up(out, counted(t, 65), 7)?;
     let many = long(1, 0, 65, 1);
-    look_up(many, 40);
-    look_up(sized(many, 65), 40);
-    look_up(two(1, 5, 2, 3, 3), 5);
-    look_up(two(1, 5, 2, 5, 3), 5);
-    look_up(two(1, GREATEST, 1, LEAST, 2), 0);
-    look_up(two(1, 0, 1, 5, BAD), 0);
-    look_up(two(1, 0, 1, 5, HIDDEN), 0);
-    look_up(two(1, 0, 1, 5, EMPTY), 0);
+    look_up(out, many, 40)?;
+    look_up(out, sized(many, 65), 40)?;
+    look_up(out, two(1, 5, 2, 3, 3), 5)?;
+    look_up(out, two(1, 5, 2, 5, 3), 5)?;
+    look_up(out, two(1, GREATEST, 1, LEAST, 2), 0)?;
+    look_up(out, two(1, 0, 1, 5, BAD), 0)?;
+    look_up(out, two(1, 0, 1, 5, HIDDEN), 0)?;
+    look_up(out, two(1, 0, 1, 5, EMPTY), 0)
 }
 
 // What lies past the count is ignored: a later point, a number that does not rise, a record that is not valid.
-fn cut_lookups() {
-    look_up(counted(three(1, -5, 10, 0, 20, 7, 30), 2), 8);
-    look_up(counted(three(1, 0, 1, 5, 2, 3, 3), 2), 9);
-    look_up(counted(three(1, 0, 1, 5, 2, 7, BAD), 2), 9);
+fn cut_lookups<W: Write>(out: &mut W) -> io::Result<()> {
+    look_up(out, counted(three(1, -5, 10, 0, 20, 7, 30), 2), 8)?;
+    look_up(out, counted(three(1, 0, 1, 5, 2, 3, 3), 2), 9)?;
+    look_up(out, counted(three(1, 0, 1, 5, 2, 7, BAD), 2), 9)
 }
 
 fn join_in(a: Table, b: Table, before: [Point; ROOM], entries: usize) -> Changed {
@@ -519,14 +535,14 @@ fn join_in(a: Table, b: Table, before: [Point; ROOM], entries: usize) -> Changed
     )
 }
 
-fn join(a: Table, b: Table, entries: usize) {
-    say(b"join");
-    say_table(a);
-    say(b" and");
-    say_table(b);
+fn join<W: Write>(out: &mut W, a: Table, b: Table, entries: usize) -> io::Result<()> {
+    say(out, b"join")?;
+    say_table(out, a)?;
+    say(out, b" and")?;
+    say_table(out, b)?;
     let t = used();
     let before = t.points;
-    say_change(before, join_in(a, b, before, entries), entries);
+    say_change(out, before, join_in(a, b, before, entries), entries)
 }
 
 // A join as a track of its own.
@@ -542,81 +558,82 @@ fn join_of(a: Table, b: Table) -> Table {
     }
 }
 
-fn joins() {
+fn joins<W: Write>(out: &mut W) -> io::Result<()> {
     let a = three(1, 0, 1, 4, 2, 8, 3);
     let b = two(2, 4, 20, 6, 30);
-    join(a, b, 64);
-    join(b, a, 64);
-    join(a, a, 64);
-    join(one(2, 5, 7), a, 64);
+    join(out, a, b, 64)?;
+    join(out, b, a, 64)?;
+    join(out, a, a, 64)?;
+    join(out, one(2, 5, 7), a, 64)?;
     let empty = none();
-    join(a, empty, 64);
-    join(empty, a, 64);
-    join(empty, empty, 64);
-    join(one(1, GREATEST, 1), one(2, LEAST, 2), 64);
-    join(one(1, 3, 1), one(2, 3, OFF), 64);
+    join(out, a, empty, 64)?;
+    join(out, empty, a, 64)?;
+    join(out, empty, empty, 64)?;
+    join(out, one(1, GREATEST, 1), one(2, LEAST, 2), 64)?;
+    join(out, one(1, 3, 1), one(2, 3, OFF), 64)?;
     // equal records of another segment: the second's
     let d = three(65535, 0, 1, 4, 2, 8, 3);
-    join(a, d, 64);
-    join(d, a, 64);
+    join(out, a, d, 64)?;
+    join(out, d, a, 64)?;
     // and another record of the same
-    join(one(1, 4, 20), a, 64);
+    join(out, one(1, 4, 20), a, 64)?;
     // past the counts
-    join(counted(a, 2), counted(b, 1), 64);
+    join(out, counted(a, 2), counted(b, 1), 64)?;
     // three, in both groupings
     let c = three(3, 0, 100, 6, 200, 9, 300);
-    join(join_of(a, b), c, 64);
-    join(a, join_of(b, c), 64);
+    join(out, join_of(a, b), c, 64)?;
+    join(out, a, join_of(b, c), 64)
 }
 
-fn long_joins() {
+fn long_joins<W: Write>(out: &mut W) -> io::Result<()> {
     let first = long(1, 0, 40, 1);
-    join(first, long(2, 40, 24, 101), 64);
-    join(first, long(2, 40, 25, 101), 64);
-    join(first, long(2, 24, 40, 101), 64);
-    join(first, long(2, 25, 40, 101), 64);
+    join(out, first, long(2, 40, 24, 101), 64)?;
+    join(out, first, long(2, 40, 25, 101), 64)?;
+    join(out, first, long(2, 24, 40, 101), 64)?;
+    join(out, first, long(2, 25, 40, 101), 64)?;
     let full = long(1, 0, 64, 1);
-    join(full, none(), 64);
-    join(full, long(2, 0, 64, 101), 64);
-    join(full, long(2, 64, 64, 101), 64);
+    join(out, full, none(), 64)?;
+    join(out, full, long(2, 0, 64, 101), 64)?;
+    join(out, full, long(2, 64, 64, 101), 64)?;
     // 13 before 15
     let more = one(2, -1, 2);
-    join(full, more, 64);
-    join(full, more, 63);
-    join(full, more, 65);
+    join(out, full, more, 64)?;
+    join(out, full, more, 63)?;
+    join(out, full, more, 65)
 }
 
-fn refused_joins() {
+fn refused_joins<W: Write>(out: &mut W) -> io::Result<()> {
     let a = three(1, 0, 1, 4, 2, 8, 3);
     let b = two(2, 4, 20, 6, 30);
     let equal = two(3, 4, 1, 4, 2);
-    join(sized(a, 63), b, 64);
-    join(sized(a, 65), b, 64);
-    join(counted(a, 65), b, 64);
-    join(equal, b, 64);
-    join(one(1, 4, BAD), b, 64);
-    join(one(1, 4, EMPTY), b, 64);
-    join(a, sized(b, 63), 64);
-    join(a, sized(b, 65), 64);
-    join(a, counted(b, 65), 64);
-    join(a, equal, 64);
-    join(a, one(1, 4, BAD), 64);
-    join(a, one(1, 4, EMPTY), 64);
-    join(equal, equal, 64);
-    join(a, b, 63);
-    join(a, b, 65);
+    join(out, sized(a, 63), b, 64)?;
+    join(out, sized(a, 65), b, 64)?;
+    join(out, counted(a, 65), b, 64)?;
+    join(out, equal, b, 64)?;
+    join(out, one(1, 4, BAD), b, 64)?;
+    join(out, one(1, 4, EMPTY), b, 64)?;
+    join(out, a, sized(b, 63), 64)?;
+    join(out, a, sized(b, 65), 64)?;
+    join(out, a, counted(b, 65), 64)?;
+    join(out, a, equal, 64)?;
+    join(out, a, one(1, 4, BAD), 64)?;
+    join(out, a, one(1, 4, EMPTY), 64)?;
+    join(out, equal, equal, 64)?;
+    join(out, a, b, 63)?;
+    join(out, a, b, 65)?;
     // 16 before 13 and before 15
-    join(equal, b, 63);
-    join(a, equal, 65);
-    join(long(1, 0, 64, 1), equal, 64);
+    join(out, equal, b, 63)?;
+    join(out, a, equal, 65)?;
+    join(out, long(1, 0, 64, 1), equal, 64)
 }
 
-fn main() {
-    places();
-    lookups();
-    refused_lookups();
-    cut_lookups();
-    joins();
-    long_joins();
-    refused_joins();
+fn main(rt: HostRuntime) -> io::Result<()> {
+    let out = &mut rt.stdout();
+    places(out)?;
+    lookups(out)?;
+    refused_lookups(out)?;
+    cut_lookups(out)?;
+    joins(out)?;
+    long_joins(out)?;
+    refused_joins(out)
 }
