@@ -201,15 +201,13 @@ fn three(
 // Points of a segment at from, from + 1, .. with records code, code + 1, ..
 fn long(segment: u16, from: u8, count: u8, code: u8) -> Table {
     let mut t = none();
-    let mut k: u8 = 0;
-    while k < count {
+    for k in 0..count {
         t = with(
             t,
             segment,
             (from as u16 + k as u16) as i32,
             code as u16 + k as u16,
         );
-        k += 1;
     }
     t
 }
@@ -346,8 +344,7 @@ fn say_points<W: Write>(out: &mut W, points: [Point; ROOM], count: usize) -> io:
     let n = shown(count);
     let mut goes_on = false;
     let mut was_inner = false;
-    let mut k: usize = 0;
-    while k < n {
+    for k in 0..n {
         let next = k + 1;
         let p = points[k];
         let on = follows(p, points[next]) & (next < n);
@@ -355,7 +352,6 @@ fn say_points<W: Write>(out: &mut W, points: [Point; ROOM], count: usize) -> io:
         say_entry(out, p, inner, was_inner)?;
         was_inner = inner;
         goes_on = on;
-        k = next;
     }
     Ok(())
 }
@@ -370,12 +366,10 @@ struct Left {
 fn left_as(before: [Point; ROOM], after: [Point; ROOM], count: usize) -> Left {
     let mut cleared = true;
     let mut same = true;
-    let mut k: usize = 0;
-    while k < ROOM {
+    for k in 0..ROOM {
         let p = after[k];
         cleared = cleared & ((k < count) | (k == plan::POINTS) | is_cleared(p));
         same = same & is_same(before[k], p);
-        k += 1;
     }
     Left { cleared, same }
 }
