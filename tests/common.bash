@@ -27,7 +27,7 @@ finish() { # WHAT IS SO
 programs() { # NAME...
     local name
     for name; do
-        [ -f "target/bin/$name" ] || stop "there is no target/bin/$name: rt check $name proves and builds it"
+        [ -f "crates/$name/out/$name" ] || stop "there is no crates/$name/out/$name: rt ci proves and builds it, and so does rt run in crates/$name"
     done
 }
 
@@ -36,19 +36,6 @@ needs() { # COMMAND PACKAGE...
     ! command -v "$1" >/dev/null || return 0
     printf '%s: there is no %s; installing with apt-get: %s\n' "$me" "$1" "${*:2}"
     { apt-get update && apt-get install -y "${@:2}"; } >"$room/apt" 2>&1 || stop "that failed: $(tail -n 3 "$room/apt")"
-}
-
-# Makes $compile a C compiler for x86-64, for which the archive is, and $run what runs its programs. On another machine that is a cross
-# compiler, and the toolchain's emulator.
-c_compiler() {
-    local guide
-    compile=(cc) run=()
-    if [ "$(uname -m)" != x86_64 ]; then
-        needs x86_64-linux-gnu-gcc gcc-x86-64-linux-gnu libc6-dev-amd64-cross
-        guide=$(rt doc) || stop "there is no command rt, which says where the emulator is"
-        compile=(x86_64-linux-gnu-gcc -static)
-        run=("${guide%/docs/*}/on/$(uname -m)/toolchain/bin/qemu-x86_64")
-    fi
 }
 
 # Runs a session: lines '$ COMMAND', each with what it prints below. One shell runs them all, and what comes out has to be the text.

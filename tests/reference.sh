@@ -61,7 +61,7 @@ for where, its, those in (('include/pimlasut.h', enum, set(rows)), ('crates/refu
     for number in sorted(set(its) - those):
         faults.append(f'{where} has {its[number]} = {number}, and docs/REFERENCE.md ' + ('says that it no longer occurs' if number in gone else 'has not'))
 for number in sorted(set(coded) & set(defined)):
-    if coded[number].replace('_', '').lower() != defined[number].lower():
+    if coded[number].replace('_', '').lower() != defined[number].replace('_', '').lower():
         faults.append(f'crates/refusals: {number} is {coded[number]} in the code and {defined[number]} in the definitions')
 for number, (name, _, _) in rows.items():
     if name != coded.get(number, enum.get(number)):
@@ -107,7 +107,7 @@ for name, _ in stacks:
 
 # ---- the crates
 architecture = text_of('docs/ARCHITECTURE.md')
-for crate in re.findall(r'^(\w+):', text_of('crates.txt'), re.M):
+for crate in re.findall(r'^(\w+)\b[^:#\n]*:', text_of('crates.txt'), re.M):
     if not re.search(rf'\b{crate}\b', architecture):
         faults.append(f'docs/ARCHITECTURE.md does not name the crate {crate}')
 

@@ -3,7 +3,7 @@
 # unit for NAME.unit, prints exactly the listing, whether the bytes come at once or one by one. Each NAME.t35 has its NAME.why too, which
 # why prints, and which samples/README.md has of each that is refused. Of an input longer than 4,096 bytes show and why read the first
 # 4,096, and unit of one longer than 4,097 the first 4,097.
-# The programs are run by ./pim, which knows how a program is run on this machine.
+# The programs are run by ./pim, and have to be built.
 . "$(dirname "$0")/common.bash"
 shopt -s nullglob
 programs show unit why
