@@ -207,28 +207,42 @@ try env PATH="${without#:}" ./pim help
 called='./pim help without rt'
 status_is 0
 
-# Building, in a small repository of its own with an rt that proves nothing. Like the real one it leaves a program that is there as
-# it is if nothing changed, and may fail after it has linked one. It takes all of the standard input that it gets, to show that it
-# gets none of the program's.
-mkdir -p "$room/bin" "$room/repository/crates/show/src"
+# Building, in a small repository of its own with an rt that proves nothing. Like the real one it works on the crate in whose folder it
+# is called, says what it has to say on standard error when it runs a program, leaves a program that is there as it is if nothing changed,
+# and may fail after it has linked one. It gives the program that it runs all of the standard input that it gets: the crate's file stdin,
+# to show that it gets none of the input of ./pim.
+mkdir -p "$room/bin" "$room/repository/crates/show/src" "$room/repository/crates/pimlasut/src"
 cp pim "$room/repository/pim"
-echo 'show:' >"$room/repository/crates.txt"
+printf 'show:\npimlasut staticlib:\n' >"$room/repository/crates.txt"
 echo 'fn main() {}' >"$room/repository/crates/show/src/main.rt"
+cp crates/show/stdin crates/show/stdout "$room/repository/crates/show"
+: >"$room/repository/crates/pimlasut/src/lib.rt"
 cat >"$room/bin/rt" <<END
 #!/bin/sh
-[ "\$1" != doc ] || exec '$real' doc
-cat >/dev/null
+[ "\$*" != version ] || exec '$real' version
+name=\${PWD##*/}
+[ "\$PWD" = '$room/repository/crates/'"\$name" ] && [ "\$#" -eq 1 ] || exit 3
 echo called >>'$room/calls'
-echo 'what the prover says'
-mkdir -p target/bin target/staticlib
-[ "\$1" != staticlib ] || [ -e '$room/fails' ] || echo "archive" >target/staticlib/libpimlasut.a
-if [ -e '$room/fails' ]; then
-    cp '$here/target/bin/show' target/bin/show
-    echo "rt: \$2 proved, and its run FAILED (0 s)"
+echo 'what the prover says' >&2
+mkdir -p out
+case \$1 in
+lib)
+    [ "\$(wc -c)" -eq 0 ] || exit 3
+    [ -e '$room/fails' ] || echo "archive" >out/libpimlasut.a
+    ;;
+run)
+    [ -e out/show ] || cp '$here/crates/show/out/show' out/show
+    echo "rt: running out/show" >&2
+    '$here/crates/show/out/show'
+    [ ! -e '$room/writes' ] || echo 'and more'
+    ;;
+*) exit 3 ;;
+esac
+[ ! -e '$room/fails' ] || {
+    echo "rt: \$name is not proved" >&2
     exit 1
-fi
-[ -e target/bin/show ] || cp '$here/target/bin/show' target/bin/show
-echo "rt: \$2 proved (0 s)"
+}
+echo "rt: \$name is proved" >&2
 END
 chmod +x "$room/bin/rt"
 : >"$room/calls"
@@ -241,7 +255,7 @@ built() {
     status_is 0
     prints samples/one-block.listing
     says 'the log is target/pim-show.log'
-    says 'rt: show proved (0 s)'
+    says 'rt: show is proved'
     says_lines 2
 }
 not_built() {
@@ -274,9 +288,12 @@ touch "$room/repository/crates.txt"
 small 'with a newer crates.txt' 5
 built
 mkdir "$room/repository/crates/show/must-fail"
-touch -r "$room/repository/crates.txt" "$room/repository/crates/show"
 echo >"$room/repository/crates/show/must-fail/one.edit"
 small 'with a new must-fail edit' 5
+not_built
+mkdir "$room/repository/crates/pimlasut/out"
+echo >"$room/repository/crates/pimlasut/out/stamp"
+small 'with something new that rt made' 5
 not_built
 touch "$room/repository/crates/show/src/main.rt" "$room/fails"
 small 'with a program that fails' 6
@@ -284,22 +301,33 @@ failed
 small 'with a program that has failed before' 7
 failed
 rm "$room/fails"
-small 'with a program that was mended' 8
+touch "$room/writes"
+small 'with a program that writes something else than its stdout' 8
+failed
+small 'with a program that has written something else before' 9
+failed
+rm "$room/writes"
+small 'with a program that was mended' 10
 built
-: >"$room/repository/target/bin/show"
-small 'with a program that cannot be run' 8
+: >"$room/repository/crates/show/out/show"
+small 'with a program that says nothing' 10
+status_is 2
+prints_nothing
+says 'pim: show printed no result'
+chmod a-x "$room/repository/crates/show/out/show"
+small 'with a program that cannot be run' 10
 status_is 2
 prints_nothing
 says 'pim: show could not be run'
 
 # Where target/ cannot be written to, one line says so.
-rm "$room/repository/target/bin/show"
+rm "$room/repository/crates/show/out/show"
 mkdir "$room/repository/target/pim-show.began"
-small 'with a file that it cannot write' 8
+small 'with a file that it cannot write' 10
 cannot "cannot write to $room/repository/target"
 mv "$room/repository/target" "$room/target"
 touch "$room/repository/target"
-small 'without a folder target' 8
+small 'without a folder target' 10
 cannot "cannot write to $room/repository/target"
 rm "$room/repository/target"
 
@@ -327,24 +355,24 @@ installed() {
     grep -qx "prefix=$room/a/prefix" "$room/a/prefix/lib/pkgconfig/pimlasut.pc" || differs "$called: lib/pkgconfig/pimlasut.pc has not its prefix"
 }
 touch "$room/fails"
-installs 'with an archive that is not made' 9
+installs 'with an archive that is not made' 11
 status_is 2
 says 'pim: pimlasut was not proved and built: target/pim-pimlasut.log says why'
 [ ! -e "$room/a" ] || differs "$called: makes the folder"
 rm "$room/fails"
-installs 'first use' 10
+installs 'first use' 12
 installed
 says 'proving and building pimlasut'
 rm -r "$room/a"
-installs 'second use' 10
+installs 'second use' 12
 installed
 says_nothing
 touch "$room/repository/crates/show/src/main.rt"
-installs 'with a newer source' 11
+installs 'with a newer source' 13
 installed
 rm -r "$room/a"
 touch "$room/a"
-installs 'below a file' 11
+installs 'below a file' 13
 cannot "cannot write to $room/a/prefix"
 
 finish 'the launcher runs, refuses and builds as it should'
