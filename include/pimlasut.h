@@ -3,7 +3,7 @@
  * H.265 SEI NAL unit, the shader's numbers, and tracks of records over pictures. docs/REFERENCE.md says at length what all
  * of this is, bit by bit; REFERENCE 6 means its section 6.
  *
- * Link with libpimlasut.a, which `rt staticlib pimlasut` writes. It needs memcpy and memset and nothing else, allocates
+ * Link with libpimlasut.a, which `rt lib` makes in crates/pimlasut. It needs memcpy and memset and nothing else, allocates
  * nothing, and keeps nothing from one call to the next.
  *
  * Every function is proved to answer as is said here, for every input (crates/pimlasut). It answers a result number:
@@ -30,7 +30,7 @@ extern "C" {
 
 /*
  * What a call takes of the stack, at most, its return address with it. Measured, not proved (docs/BENCH.md), of the optimised
- * build for x86-64, and rounded up to the next 64.
+ * build for x86-64 by an older kit, rattle-kit-5b, and rounded up to the next 64.
  *
  *   stack, bytes
  *   pim_read_bare       1600

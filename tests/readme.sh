@@ -1,8 +1,7 @@
 #!/usr/bin/env bash
 # README.md's blocks, taken out of it and run: each session has to print what the page shows, with a home of its own; the example has to
-# be the crate's file, its line that of crates.txt, and the lines of C those of the C example. A block that is none of these fails. Of
-# the two C sessions that of this machine is run, if its compiler and pkg-config are there, and the other has to be the same but for
-# the compiler and what runs the program. And README.md names the kit, and every script asks rt where it is.
+# be the crate's file, its line that of crates.txt, and the lines of C those of the C example. A block that is none of these fails. The
+# C session is run if a C compiler and pkg-config are there. And README.md names the kit, and every script asks rt where it is.
 . "$(dirname "$0")/common.bash"
 programs show why
 readme_blocks
@@ -17,16 +16,14 @@ stands_in() { # BLOCK FILE
         END { exit met < wanted }' "$1" "$2"
 }
 
-count=0 native='' cross='' skipped='' met=''
+count=0 linked='' skipped='' met=''
 for block in "$room"/blocks/*; do
     where="README.md, line $((10#${block##*/}))" first=$(head -n 1 "$block")
     count=$((count + 1))
     case $first in
     '$ '*)
         if grep -q '^\$ cc ' "$block"; then
-            native=$block
-        elif grep -q '^\$ x86_64-linux-gnu-gcc ' "$block"; then
-            cross=$block
+            linked=$block
         else
             session "$where" "$block"
             met="$met $(grep -o '^\$ \./pim [a-z]*' "$block")"
@@ -51,22 +48,14 @@ for kind in './pim show' './pim why' './pim vendor' 'the example' 'its line' 'th
     [[ $met == *"$kind"* ]] || differs "README.md has no block with $kind"
 done
 
-if [ -z "$native" ] || [ -z "$cross" ]; then
-    differs "README.md: it has not both C sessions, that with cc and that with x86_64-linux-gnu-gcc"
+if [ -z "$linked" ]; then
+    differs "README.md: it has no C session, with cc"
+elif command -v cc >/dev/null && command -v pkg-config >/dev/null; then
+    # what building the archive says, if it is due, is not in the page
+    ./pim install "$room/before" >"$room/log" 2>&1 || stop "./pim install fails: $(tail -n 3 "$room/log")"
+    session "README.md, line $((10#${linked##*/}))" "$linked"
 else
-    awk '/^\$ cc / { sub(/cc/, "x86_64-linux-gnu-gcc -static") }
-        /^\$ ~\/trims / { print "$ guide=$(rt doc)"; sub(/~/, "${guide%/docs/*}/on/$(uname -m)/toolchain/bin/qemu-x86_64 ~") }
-        { print }' "$native" >"$room/crossed"
-    cmp -s "$room/crossed" "$cross" || differs "README.md: the two C sessions differ in more than the compiler and what runs the program:"$'\n'"$(diff "$room/crossed" "$cross")"
-    own=$native compiler=cc
-    [ "$(uname -m)" = x86_64 ] || own=$cross compiler=x86_64-linux-gnu-gcc
-    if command -v "$compiler" >/dev/null && command -v pkg-config >/dev/null; then
-        # what building the archive says, if it is due, is not in the page
-        ./pim install "$room/before" >"$room/log" 2>&1 || stop "./pim install fails: $(tail -n 3 "$room/log")"
-        session "README.md, line $((10#${own##*/}))" "$own"
-    else
-        skipped="; its C session was not run, for $compiler or pkg-config is missing"
-    fi
+    skipped="; its C session was not run, for cc or pkg-config is missing"
 fi
 
 # The kit: README.md names one, and no script says where it is.
