@@ -1,5 +1,4 @@
 -- `plan::clamp` meets its contract.
-use borrow.Author.Rules.{rules}
 use borrow.Author.Tests.{lt-ltb, le-ltb}
 use native.Mathlib.Omega.{arith}
 use Rattle.plan.proofs.clamp.Goals as goal
