@@ -18,12 +18,12 @@ pub returns-then-not-is_admitted : goal.returns-then-not-is_admitted
 returns-then-not-is_admitted c =
     let d = c in
     let u = d.args.input.now in
-    c.unplaced.ensures ∙ not_admitted u (sym d.is_admitted.ensures ∙ not-true d.is_admitted.result c.if-not-is_admitted.true)
+    c.unplaced.ensures ∙ not_admitted u (sym d.is_admitted.ensures ∙ c.if-not-is_admitted.true)
 
 pub returns-then-has_forbidden : goal.returns-then-has_forbidden
 returns-then-has_forbidden c =
     let is_admitted_lem : admitted c.args.input.now ≡ true =
-    sym c.is_admitted.ensures ∙ not-false c.is_admitted.result c.if-not-is_admitted.false in
+    sym c.is_admitted.ensures ∙ c.if-not-is_admitted.false in
     let d = c in
     let u = d.args.input.now in
     c.unplaced-then-has_forbidden.ensures ∙ start_code u (is_admitted_lem) (sym d.has_forbidden.ensures ∙ c.if-has_forbidden.true)
@@ -31,7 +31,7 @@ returns-then-has_forbidden c =
 pub slice_bounds-read_body-count : goal.slice_bounds-read_body-count
 slice_bounds-read_body-count c =
     let is_admitted_lem : admitted c.args.input.now ≡ true =
-    sym c.is_admitted.ensures ∙ not-false c.is_admitted.result c.if-not-is_admitted.false in
+    sym c.is_admitted.ensures ∙ c.if-not-is_admitted.false in
     let long : (2 ≤ length c.args.input.now) × (length c.args.input.now ≤ most_unit_bytes) =
     let u = c.args.input.now in
     let a = admitted_is u (is_admitted_lem) in
@@ -41,7 +41,7 @@ slice_bounds-read_body-count c =
 pub read_body-requires : goal.read_body-requires
 read_body-requires c =
     let is_admitted_lem : admitted c.args.input.now ≡ true =
-    sym c.is_admitted.ensures ∙ not-false c.is_admitted.result c.if-not-is_admitted.false in
+    sym c.is_admitted.ensures ∙ c.if-not-is_admitted.false in
     let long : (2 ≤ length c.args.input.now) × (length c.args.input.now ≤ most_unit_bytes) =
     let u = c.args.input.now in
     let a = admitted_is u (is_admitted_lem) in
@@ -52,7 +52,7 @@ read_body-requires c =
 pub returns : goal.returns
 returns c =
     let is_admitted_lem : admitted c.args.input.now ≡ true =
-    sym c.is_admitted.ensures ∙ not-false c.is_admitted.result c.if-not-is_admitted.false in
+    sym c.is_admitted.ensures ∙ c.if-not-is_admitted.false in
     let d = c in
     let u = d.args.input.now in
     c.read_body.ensures ∙ ap (λ (l : List ℕ). read_messages (removed l)) (behind_header u) ∙ body-read u (is_admitted_lem) (sym d.has_forbidden.ensures ∙ d.if-has_forbidden.false)

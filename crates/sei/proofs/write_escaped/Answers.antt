@@ -51,4 +51,4 @@ returns c =
     let out = s.args.out.now in
     let room : length (our_header ++ bytes) ≤ length out = omega (arith, d.ensures) in
     let x = done (our_header ++ bytes) true out refl room in
-    let n : d.result + 2 ≡ length (our_header ++ bytes) = omega (arith, d.ensures) in record { result = ap (written 0) n ∙ x.0; buffer = header_stored bytes out c.insert.new.out room c.insert.ensures ∙ x.1 }
+    let n : d.result + 2 ≡ length (our_header ++ bytes) = omega (arith, d.ensures) in record { result = ap (written 0) n ∙ x.0; buffer = header_stored bytes out c.insert.new.out room c.insert.ensures.buffer ∙ x.1 }
