@@ -10,13 +10,9 @@ use borrow.Author.Tests.{eqb-true}
 use lib.Dec.{eqb, ltb}
 use lib.ListN.{length, get_or, set, length-set, length-map}
 use lib.Seq.{ext_get_or, get_or-set_same, get_or-set_other}
-use mir.Val.{Val}
-use denote.Laws.{Is}
-use denote.Struct.Field.{u8-field}
 use Rattle.plan.specs.declared.Layout.{Layout}
 use Rattle.plan.specs.Limit.{most_points}
 use Rattle.plan.specs.Planning.{neither, bound_of, source_at, left_of, right_of}
-use Rattle.plan.specs.contracts.Layout as L
 use Rattle.track.specs.declared.Point.{Point}
 use Rattle.track.specs.Track.{cleared}
 use Rattle.track.specs.Inner.{unfilled, point_at, set_to, chosen_of, filled_to}
@@ -77,6 +73,3 @@ within_by false i h = absurd (not-suc-le-zero h)
 
 pub bound_done : (l : Layout) (i : ℕ) → i < bound_of l → l.result ≡ 0
 bound_done l i h = eqb-true l.result 0 (within_by (eqb l.result 0) i h)
-
-pub sources_length : (l : Layout) (v : Val) → Is L.the_row l (v ∷ []) → length l.sources ≡ most_points
-sources_length l v is = sym (length-map l.sources u8-field.into) ∙ is.1.1.1.1.0.1.0.1

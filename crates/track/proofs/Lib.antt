@@ -5,6 +5,5 @@ pub mod Natural
 pub mod Tracks
 pub mod Together
 pub mod Looking
-pub mod Says
 pub mod Written
 pub mod OneAnswer

@@ -1,6 +1,5 @@
--- What every walk over a table needs: the size of a point, where one stands, and a name for each part of the code.
+-- The size of a record, of a point and of a table, and that a point of a table stands at an offset that fits.
 use mathlib.Core.Path.{◌≡◌, refl}
-use mathlib.Core.Bool.{Bool, true, false}
 use Prim.Native.Nat.{ℕ, ◌<◌, ◌*◌, ◌^◌}
 use native.Mathlib.Omega.{arith}
 use prog.Memory.{size}
@@ -8,7 +7,6 @@ use denote.Memory.{lone}
 use Rattle.record.specs.contracts.Record as C
 use Rattle.plan.specs.Limit.{most_points}
 use Rattle.track.specs.contracts.Point as P
-use package.mir.Syntax.{Body, skip, seq, assign, block, loop, cond, switch, exit, return, call}
 
 -- a record, a point and a table, in bytes
 abbrev pub record_size : ℕ
@@ -26,22 +24,3 @@ sizes = (refl, refl, refl)
 
 pub offset_fits : (i n : ℕ) → i < n → n * point_size < 2 ^ 63 → i * point_size < 2 ^ 64
 offset_fits i n l r = omega arith
-
-pub split-on {ℓ} : {X : Type ℓ} (b : Bool) → (b ≡ true → X) → (b ≡ false → X) → X
-split-on true f g = f refl
-split-on false f g = g refl
-
--- the first part of a sequence or a branch, or the second: what stands inside a loop's turn has no name of its own
-abbrev pub side : Bool → Body → Body
-side true (seq a b) = a
-side false (seq a b) = b
-side true (cond c a b) = a
-side false (cond c a b) = b
-side u skip = skip
-side u (assign p r) = assign p r
-side u (block b) = block b
-side u (loop b) = loop b
-side u (switch c arms) = switch c arms
-side u (exit n) = exit n
-side u return = return
-side u (call f xs d) = call f xs d
