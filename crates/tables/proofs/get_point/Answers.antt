@@ -17,13 +17,12 @@ use Rattle.tables.proofs.get_point.Goals as goal
 pub returns : goal.returns
 unfolding point_in
 returns c =
-    let fits : SFits w32 (given) =
-    record { sfits = c.number-1.given } in
-    let held : c.unsigned-segment.result ≡ unsigned_in 16 (given) =
-    c.unsigned-segment.ensures ∙ ap (unsigned_in 16) (to_z-of_z w32 (given) (fits)) in
-    let u = c in
-    let a = u.args in
+    let a = c.args in
+    let given : ℤ = number_at a.table.now (point_length * a.i + 1) in
+    let fits : SFits w32 given = search rules in
+    let held : c.unsigned-segment.result ≡ unsigned_in 16 given = c.unsigned-segment.ensures ∙ ap (unsigned_in 16) (to_z-of_z w32 given fits) in
     let n = number_at a.table.now (point_length * a.i) in
-    same_point (to_z-of_z w32 n (record { sfits = u.picture-1.given })) (held)
+    let fits-n : SFits w32 n = search rules in
+    same_point (to_z-of_z w32 n fits-n) held
     (c.get_beside-shown.ensures
-    ∙ ap (λ (t : Bool). record_beside t (take flat_length (drop (point_length * a.i + 2) a.table.now))) (segment_test (given) u.unsigned-segment.result (fits) (held)))
+    ∙ ap (λ (t : Bool). record_beside t (take flat_length (drop (point_length * a.i + 2) a.table.now))) (segment_test given c.unsigned-segment.result fits held))

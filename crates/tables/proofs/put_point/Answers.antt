@@ -26,11 +26,10 @@ shape_of-row c = c.put_record.auto.row ∙ simp length-set
 pub returns : goal.returns
 returns c =
     let s = c in
-    let told = c.type_inv.point in
     let d = s.args.row.now in
     let at = s.args.at in
     let p = s.args.point in
     c.put_record.ensures
-    ∙ ap (λ (z : ℤ). paste (set (set d at z) (at + 1) (to_z w32 p.segment)) (at + 2) (flat p.«record») flat_length) (to_z-of_z w32 p.picture (record { sfits = told.0.1 }))
-    ∙ ap (λ (z : ℤ). paste (set (set d at p.picture) (at + 1) z) (at + 2) (flat p.«record») flat_length) (wide p.segment told.1.0.1)
+    ∙ ap (λ (z : ℤ). paste (set (set d at z) (at + 1) (to_z w32 p.segment)) (at + 2) (flat p.«record») flat_length) (to_z-of_z w32 p.picture (record { sfits = omega arith }))
+    ∙ ap (λ (z : ℤ). paste (set (set d at p.picture) (at + 1) z) (at + 2) (flat p.«record») flat_length) (wide p.segment (omega arith))
     ∙ point_pasted d at p s.requires
