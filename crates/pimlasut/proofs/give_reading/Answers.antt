@@ -9,11 +9,11 @@ use borrow.Author.Rules.{rules}
 use Rattle.pimlasut.proofs.give_reading.Goals as goal
 
 pub returns-then-reading-ne0 : goal.returns-then-reading-ne0
-returns-then-reading-ne0 c = let a = c.args in let both = (refl, (kept a.reading.result (flat a.reading.«record») a.numbers.now c.if-reading-ne0.true, rw c.mark.ensures at c.put_facts.ensures)) in record { result = both.0; «record» = both.1; facts = both.2 }
+returns-then-reading-ne0 c = let a = c.args in record { result = refl; «record» = kept a.reading.result (flat a.reading.«record») a.numbers.now c.if-reading-ne0.true; facts = rw c.mark.ensures at c.put_facts.ensures }
 
 pub returns : goal.returns
 returns c =
     let long : length c.args.reading.«record».places ≡ most_blocks =
     c.well_formed.0.1.1.1.1.1.1.1.1.0.1.1.1.1.0.1.0.1 in
     let s = c in
-    let r = s.args.reading.«record» in let both = (sym c.if-reading-ne0.false, (c.put_record.ensures ∙ pasted_whole s.args.numbers.now (flat r) flat_length s.requires.0 (length-flat r (long)), rw c.mark.ensures at c.put_facts.ensures)) in record { result = both.0; «record» = both.1; facts = both.2 }
+    let r = s.args.reading.«record» in record { result = sym c.if-reading-ne0.false; «record» = c.put_record.ensures ∙ pasted_whole s.args.numbers.now (flat r) flat_length s.requires.0 (length-flat r (long)); facts = rw c.mark.ensures at c.put_facts.ensures }

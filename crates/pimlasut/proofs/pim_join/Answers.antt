@@ -21,7 +21,7 @@ use borrow.Author.Rules.{rules}
 use Rattle.pimlasut.proofs.pim_join.Goals as goal
 
 pub returns-then-first-second : goal.returns-then-first-second
-returns-then-first-second c = let a = c.args in let both = (wrong (is_table a.first.now && is_table a.second.now && is_table a.table.now) (joining a.first.now a.first_count a.second.now a.second_count).result (one_of_three_wrong (is_table a.first.now) (is_table a.second.now) (is_table a.table.now) c.if-first-second.true), (refl, refl)) in record { result = both.0; table = both.1; count = both.2 }
+returns-then-first-second c = let a = c.args in record { result = wrong (is_table a.first.now && is_table a.second.now && is_table a.table.now) (joining a.first.now a.first_count a.second.now a.second_count).result (one_of_three_wrong (is_table a.first.now) (is_table a.second.now) (is_table a.table.now) c.if-first-second.true); table = refl; count = refl }
 
 pub scan-s-requires : goal.scan-s-requires
 scan-s-requires c =
@@ -65,13 +65,7 @@ returns-then-layout-ne0 c =
     ) in
     let a = c.args in
     let layout = c.decide-layout.result in
-    let no = c.if-layout-ne0.true in let both = (
-      (answered).0,
-      (
-        kept layout.result (joined_table a.first.now a.first_count a.second.now a.second_count) a.table.now no,
-        kept layout.result (joining a.first.now a.first_count a.second.now a.second_count).count a.count.now no,
-      ),
-    ) in record { result = both.0; table = both.1; count = both.2 }
+    let no = c.if-layout-ne0.true in record { result = (answered).0; table = kept layout.result (joined_table a.first.now a.first_count a.second.now a.second_count) a.table.now no; count = kept layout.result (joining a.first.now a.first_count a.second.now a.second_count).count a.count.now no }
 
 pub fill-requires : goal.fill-requires
 fill-requires c =
@@ -107,12 +101,10 @@ returns c =
     let done : layout.result ≡ 0 = c.if-layout-ne0.false in
     let e = planned-is in
     let p = planned a.first.now a.first_count a.second.now a.second_count in
-    let entries = flat_table (map (chosen_of (table_in a.first.now) (table_in a.second.now)) layout.sources) in let both = (
-      sym done ∙ (answered).0,
-      (
-        c.fill.ensures ∙ ap (λ (u : Bool). cond u entries a.table.now) (eq-eqb layout.result 0 done)
-            ∙ ap (λ (l : Layout). flat_table (map (chosen_of (table_in a.first.now) (table_in a.second.now)) l.sources)) e
-            ∙ ap flat_table (planned_table a.first.now a.first_count a.second.now a.second_count (sym (ap (λ (l : Layout). l.result) e) ∙ done)),
-        (answered).1,
-      ),
-    ) in record { result = both.0; table = both.1; count = both.2 }
+    let entries = flat_table (map (chosen_of (table_in a.first.now) (table_in a.second.now)) layout.sources) in record {
+      result = sym done ∙ (answered).0;
+      table = c.fill.ensures ∙ ap (λ (u : Bool). cond u entries a.table.now) (eq-eqb layout.result 0 done)
+          ∙ ap (λ (l : Layout). flat_table (map (chosen_of (table_in a.first.now) (table_in a.second.now)) l.sources)) e
+          ∙ ap flat_table (planned_table a.first.now a.first_count a.second.now a.second_count (sym (ap (λ (l : Layout). l.result) e) ∙ done));
+      count = (answered).1;
+    }

@@ -22,7 +22,7 @@ use borrow.Author.Rules.{rules}
 use Rattle.pimlasut.proofs.pim_lookup.Goals as goal
 
 pub returns-then-table-numbers : goal.returns-then-table-numbers
-returns-then-table-numbers c = let a = c.args in let both = (wrong (is_table a.table.now && is_point a.numbers.now) (looking a.table.now a.count a.picture).result (one_wrong (is_table a.table.now) (is_point a.numbers.now) c.if-table-numbers.true), (refl, refl)) in record { result = both.0; point = both.1; found = both.2 }
+returns-then-table-numbers c = let a = c.args in record { result = wrong (is_table a.table.now && is_point a.numbers.now) (looking a.table.now a.count a.picture).result (one_wrong (is_table a.table.now) (is_point a.numbers.now) c.if-table-numbers.true); point = refl; found = refl }
 
 pub scan-seen-requires : goal.scan-seen-requires
 scan-seen-requires c =
@@ -62,13 +62,11 @@ returns c =
     let l = a.table.now in
     let e = found in
     let t = sized in
-    let show = c.show in let both = (
-      show.ensures.result ∙ ap (λ (f : Sought). f.result) e ∙ sought_result l a.count a.picture
-          ∙ right (is_table l && is_point a.numbers.now) (looking l a.count a.picture).result (and_both (is_table l) (is_point a.numbers.now) t.0 t.1),
-      (
-        show.ensures.point.0 ∙ ap (λ (f : Sought). after show.result (flat_point (found_in l f)) a.numbers.now) e
-            ∙ ap (λ (q : Point). after show.result (flat_point q) a.numbers.now) (sought_point l a.count a.picture),
-        show.ensures.point.1 ∙ ap (λ (f : Sought). after show.result (bit f.found) a.found.now) e
-            ∙ ap (λ (u : Bool). after show.result (bit u) a.found.now) (sought_found l a.count a.picture),
-      ),
-    ) in record { result = both.0; point = both.1; found = both.2 }
+    let show = c.show in record {
+      result = show.ensures.result ∙ ap (λ (f : Sought). f.result) e ∙ sought_result l a.count a.picture
+          ∙ right (is_table l && is_point a.numbers.now) (looking l a.count a.picture).result (and_both (is_table l) (is_point a.numbers.now) t.0 t.1);
+      point = show.ensures.point ∙ ap (λ (f : Sought). after show.result (flat_point (found_in l f)) a.numbers.now) e
+          ∙ ap (λ (q : Point). after show.result (flat_point q) a.numbers.now) (sought_point l a.count a.picture);
+      found = show.ensures.found ∙ ap (λ (f : Sought). after show.result (bit f.found) a.found.now) e
+          ∙ ap (λ (u : Bool). after show.result (bit u) a.found.now) (sought_found l a.count a.picture);
+    }

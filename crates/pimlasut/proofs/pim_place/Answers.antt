@@ -26,7 +26,7 @@ use borrow.Author.Rules.{rules}
 use Rattle.pimlasut.proofs.pim_place.Goals as goal
 
 pub returns-then-numbers-table : goal.returns-then-numbers-table
-returns-then-numbers-table c = let a = c.args in let both = (wrong (is_record a.numbers.now && is_table a.table.now) (placing a.numbers.now a.picture a.segment).result (one_wrong (is_record a.numbers.now) (is_table a.table.now) c.if-numbers-table.true), (refl, refl)) in record { result = both.0; table = both.1; count = both.2 }
+returns-then-numbers-table c = let a = c.args in record { result = wrong (is_record a.numbers.now && is_table a.table.now) (placing a.numbers.now a.picture a.segment).result (one_wrong (is_record a.numbers.now) (is_table a.table.now) c.if-numbers-table.true); table = refl; count = refl }
 
 pub get_record-r-requires : goal.get_record-r-requires
 get_record-r-requires c =
@@ -58,14 +58,12 @@ returns-then-is_valid c =
     let t = sized in
     let good : valid r ≡ true = sym (c.is_valid.ensures ∙ ap valid e) ∙ c.if-is_valid.true in
     let done : place_refusal x most_points ≡ 0 = ap (λ (u : Bool). cond u 0 not_valid) good in
-    let place = c.place_point in let both = (
-      sym done ∙ right (is_record a.numbers.now && is_table a.table.now) (place_refusal x most_points) (and_both (is_record a.numbers.now) (is_table a.table.now) t.0 t.1),
-      (
-        place.ensures.table ∙ ap (λ (q : Point). flat_table (padded (placed_points q))) p,
-        place.ensures.count ∙ ap (λ (q : Point). length (placed_points q)) p
-            ∙ sym (ap (λ (n : ℕ). cond (eqb n 0) (length (placed_points x)) 0) done),
-      ),
-    ) in record { result = both.0; table = both.1; count = both.2 }
+    let place = c.place_point in record {
+      result = sym done ∙ right (is_record a.numbers.now && is_table a.table.now) (place_refusal x most_points) (and_both (is_record a.numbers.now) (is_table a.table.now) t.0 t.1);
+      table = place.ensures.table ∙ ap (λ (q : Point). flat_table (padded (placed_points q))) p;
+      count = place.ensures.count ∙ ap (λ (q : Point). length (placed_points q)) p
+          ∙ sym (ap (λ (n : ℕ). cond (eqb n 0) (length (placed_points x)) 0) done);
+    }
 
 pub returns : goal.returns
 returns c =
@@ -78,7 +76,4 @@ returns c =
     let x = point_named a.numbers.now a.picture a.segment in
     let e = read in
     let t = sized in
-    let bad : valid r ≡ false = sym (c.is_valid.ensures ∙ ap valid e) ∙ c.if-is_valid.false in let both = (
-      sym (ap (λ (u : Bool). cond u 0 not_valid) bad) ∙ right (is_record a.numbers.now && is_table a.table.now) (place_refusal x most_points) (and_both (is_record a.numbers.now) (is_table a.table.now) t.0 t.1),
-      (refl, refl),
-    ) in record { result = both.0; table = both.1; count = both.2 }
+    let bad : valid r ≡ false = sym (c.is_valid.ensures ∙ ap valid e) ∙ c.if-is_valid.false in record { result = sym (ap (λ (u : Bool). cond u 0 not_valid) bad) ∙ right (is_record a.numbers.now && is_table a.table.now) (place_refusal x most_points) (and_both (is_record a.numbers.now) (is_table a.table.now) t.0 t.1); table = refl; count = refl }

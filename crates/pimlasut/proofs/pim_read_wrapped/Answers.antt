@@ -13,7 +13,7 @@ use Rattle.pimlasut.proofs.pim_read_wrapped.Goals as goal
 pub returns-then-numbers-facts : goal.returns-then-numbers-facts
 returns-then-numbers-facts c =
     let d = c in
-    let a = d.args in let both = unfit_reading a.numbers.now a.facts.now (read_wrapped a.input.now) (one_wrong (is_record a.numbers.now) (is_facts a.facts.now) d.if-numbers-facts.true) c.clear_facts.ensures in record { result = both.0; «record» = both.1; facts = both.2 }
+    let a = d.args in let both = unfit_reading a.numbers.now a.facts.now (read_wrapped a.input.now) (one_wrong (is_record a.numbers.now) (is_facts a.facts.now) d.if-numbers-facts.true) c.clear_facts.ensures in record { result = both.0; «record» = both.1.0; facts = both.1.1 }
 
 pub give_reading-requires : goal.give_reading-requires
 give_reading-requires c =
@@ -29,4 +29,4 @@ returns c =
     none_wrong (is_record c.args.numbers.now) (is_facts c.args.facts.now) c.if-numbers-facts.false in
     let given = c.give_reading.ensures in
     let read = c in
-    let a = read.args in let both = given_reading a.numbers.now a.facts.now (read_wrapped a.input.now) (sized) read.read_wrapped-reading.ensures given.result given.record.0 given.record.1 in record { result = both.0; «record» = both.1; facts = both.2 }
+    let a = read.args in let both = given_reading a.numbers.now a.facts.now (read_wrapped a.input.now) (sized) read.read_wrapped-reading.ensures given.result given.record given.facts in record { result = both.0; «record» = both.1.0; facts = both.1.1 }

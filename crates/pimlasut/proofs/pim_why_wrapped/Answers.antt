@@ -25,4 +25,4 @@ returns c =
     let made = c in
     let read = made in
     let a = read.args in let both = given-reason (read_wrapped a.input.now) a.out.now read.read_wrapped-reading.ensures made.write_reason-answer.ensures.result
-    a.written.now made.write_reason-answer.ensures.buffer c.give_written.ensures.result c.give_written.ensures.bytes in record { result = both.0; buffer = both.1; bytes = both.2 }
+    a.written.now made.write_reason-answer.ensures.buffer c.give_written.ensures.result c.give_written.ensures.bytes in record { result = both.0; buffer = both.1.0; bytes = both.1.1 }

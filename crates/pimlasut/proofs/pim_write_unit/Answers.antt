@@ -10,7 +10,7 @@ use borrow.Author.Rules.{rules}
 use Rattle.pimlasut.proofs.pim_write_unit.Goals as goal
 
 pub returns-then-numbers-ne-NUMBERS : goal.returns-then-numbers-ne-NUMBERS
-returns-then-numbers-ne-NUMBERS c = let a = c.args in let both = (wrong (is_record a.numbers.now) (write_unit (record_in a.numbers.now) a.out.now).result (ne_eqb (length a.numbers.now) flat_length c.if-numbers-ne-NUMBERS.true), (refl, refl)) in record { result = both.0; buffer = both.1; bytes = both.2 }
+returns-then-numbers-ne-NUMBERS c = let a = c.args in record { result = wrong (is_record a.numbers.now) (write_unit (record_in a.numbers.now) a.out.now).result (ne_eqb (length a.numbers.now) flat_length c.if-numbers-ne-NUMBERS.true); buffer = refl; bytes = refl }
 
 pub give_written-requires : goal.give_written-requires
 give_written-requires c =
@@ -24,4 +24,4 @@ returns c =
     let made = c in
     let named = made in
     let a = named.args in let both = given_written unit_bytes a.numbers.now a.out.now named.if-numbers-ne-NUMBERS.false named.get_record-r.ensures made.write_unit-answer.ensures.result
-    a.written.now made.write_unit-answer.ensures.buffer c.give_written.ensures.result c.give_written.ensures.bytes in record { result = both.0; buffer = both.1; bytes = both.2 }
+    a.written.now made.write_unit-answer.ensures.buffer c.give_written.ensures.result c.give_written.ensures.bytes in record { result = both.0; buffer = both.1.0; bytes = both.1.1 }

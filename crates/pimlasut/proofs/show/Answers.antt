@@ -12,13 +12,7 @@ use Rattle.pimlasut.proofs.show.Goals as goal
 pub returns-then-sought-ne0 : goal.returns-then-sought-ne0
 returns-then-sought-ne0 c =
     let a = c.args in
-    let no = c.if-sought-ne0.true in let both = (
-      refl,
-      (
-        kept a.sought.result (flat_point (found_in a.table.now a.sought)) a.numbers.now no,
-        kept a.sought.result (bit a.sought.found) a.found.now no,
-      ),
-    ) in record { result = both.0; point = both.1; found = both.2 }
+    let no = c.if-sought-ne0.true in record { result = refl; point = kept a.sought.result (flat_point (found_in a.table.now a.sought)) a.numbers.now no; found = kept a.sought.result (bit a.sought.found) a.found.now no }
 
 pub found_point-point-requires : goal.found_point-point-requires
 found_point-point-requires c = let s = c in (s.requires.0, s.requires.2)
@@ -27,11 +21,9 @@ pub returns : goal.returns
 returns c =
     let s = c in
     let a = s.args in
-    let q = found_in a.table.now a.sought in let both = (
-      sym c.if-sought-ne0.false,
-      (
-        c.put_point.ensures ∙ ap (λ (p : Point). paste a.numbers.now 0 (flat_point p) point_length) c.found_point-point.ensures
-            ∙ pasted_whole a.numbers.now (flat_point q) point_length s.requires.1 (length_found a.table.now a.sought),
-        c.mark.ensures,
-      ),
-    ) in record { result = both.0; point = both.1; found = both.2 }
+    let q = found_in a.table.now a.sought in record {
+      result = sym c.if-sought-ne0.false;
+      point = c.put_point.ensures ∙ ap (λ (p : Point). paste a.numbers.now 0 (flat_point p) point_length) c.found_point-point.ensures
+          ∙ pasted_whole a.numbers.now (flat_point q) point_length s.requires.1 (length_found a.table.now a.sought);
+      found = c.mark.ensures;
+    }
