@@ -96,9 +96,14 @@ class Function:
                 return [rest[0], ps[i - 1]] + rest[i + 1 :]
         if rest and rest[0] == "ensures" and s in self.clauses and len(rest) > 1 and rest[1].isdigit():
             cl = self.clauses[s]
+            # the clauses were pairs, each in the second part of the one before
             k, i = 0, 1
-            if int(rest[1]) < len(cl):
-                return ["ensures", cl[int(rest[1])]] + rest[2:]
+            while k < len(cl) - 1 and i < len(rest) and rest[i] == "1":
+                k, i = k + 1, i + 1
+            if k == len(cl) - 1:
+                return ["ensures", cl[k]] + rest[i:]
+            if i < len(rest) and rest[i] == "0":
+                return ["ensures", cl[k]] + rest[i + 1 :]
         return rest
 
     def turn(self, text, aliases=None, helpers=(), answers=(), used=None):
@@ -327,11 +332,13 @@ def convert(fn, text):
             if new.startswith("returns") and len(labels) > 1:
                 lets_before, b = last_in(body.strip())
                 parts = top_tuple(b)
+                while parts and len(parts) < len(labels) and top_tuple(parts[-1]):
+                    parts = parts[:-1] + top_tuple(parts[-1])
                 words = [f"«{l}»" if l in ("record", "data", "open") else l for l in labels]
                 if parts and len(parts) == len(labels):
                     body = lets_before + "record { " + "; ".join(f"{l} = {p.strip()}" for l, p in zip(words, parts)) + " }"
                 else:
-                    body = lets_before + f"let both = {b} in record {{ " + "; ".join(f"{l} = both.{i}" for i, l in enumerate(words)) + " }"
+                    body = lets_before + f"let both = {b} in record {{ " + "; ".join(f"{l} = both" + ".1" * i + (".0" if i < len(words) - 1 else "") for i, l in enumerate(words)) + " }"
             ans.append(
                 "\n".join(
                     d["comment"]

@@ -24,7 +24,7 @@ use Rattle.tree.proofs.Meaning.{widths_append, every_answer_is_true}
 use Rattle.tree.proofs.Tables.{read_then, then_done, then_same, then_then}
 use Rattle.tree.proofs.Spells.{apart_complete, any_only, must_only, done_only, row_only, zeros_only}
 use Rattle.tree.proofs.Steps.{read-any, bits_there, bits_short}
-use Rattle.tree.proofs.Widths.{widths_fields, variable_width}
+use Rattle.tree.proofs.Widths.{widths_fields}
 use Rattle.tree.proofs.Accepted.{widths_zeros}
 use Rattle.bits.proofs.Reading.{ToldOf}
 use Rattle.element.specs.declared.Element.{Element as Title}

@@ -15,7 +15,7 @@ use Rattle.tree.specs.Codes.{ue_code}
 use Rattle.tree.specs.Reading.{Rule, meets, Fault, cut_off, overlong, breaks, number_in, offset_in, element_in, ok, no, ue}
 use Rattle.tree.specs.Coding.{most_zeros, unsigned, variable, fixed, holds_in, natural}
 use Rattle.tree.specs.Syntax.{range_rule, left_over}
-use Rattle.tree.specs.Meaning.{Element, element, zero_bit, field_elements, sum_of_widths, all_bits, broken}
+use Rattle.tree.specs.Meaning.{Element, zero_bit, field_elements, sum_of_widths, all_bits, broken}
 use Rattle.tree.proofs.Truth.{clash, range_of_one}
 use Rattle.tree.proofs.Bits.{length-code}
 use Rattle.tree.proofs.Elements.{codes_ue, length-ue, zeros_few}

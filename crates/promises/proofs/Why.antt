@@ -29,7 +29,7 @@ use Rattle.syntax.proofs.Named.{told_in_bits}
 use Rattle.syntax.proofs.Wrapped.{handed_on, wrapped_data_gets_a_listed_number}
 use Rattle.reader.specs.Reading.{reading_of, read_bare, unplaced}
 use Rattle.wrapper.specs.Wrapper.{read_wrapped}
-use Rattle.reason.specs.Reason.{allowed, word_text, reason_of, why_text, reason_text, reason}
+use Rattle.reason.specs.Reason.{word_text, reason_of, why_text, reason_text, reason}
 use Rattle.reason.proofs.Told.{the_text_is_that_of_the_answer, the_text_is_that_of_the_wrapped_answer}
 use Rattle.promises.specs.Why.{place_text, value_text, TrueOfData, cut_short, too_many_zeros, not_allowed, left_over_bytes, TrueOfWrapped, wrapper_ends, wrapper_other, of_the_data}
 use Rattle.promises.proofs.Reasons.{fault_of}

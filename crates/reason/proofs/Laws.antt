@@ -1,5 +1,5 @@
 -- The texts of the parts, and their room.
-use Prim.Native.Nat.{ℕ, ◌+◌, ◌<◌, ◌≤◌}
+use Prim.Native.Nat.{ℕ, ◌<◌, ◌≤◌}
 use mathlib.Core.Path.{◌≡◌}
 use mathlib.Core.List.{◌++◌, append-nil}
 use mathlib.Core.Bool.{true}

@@ -1,7 +1,7 @@
 -- Blocks on both sides of each range and of the order of level 1, by hand from 01: what the definition and the code could get wrong together.
 use mathlib.Core.Path.{◌≡◌, refl}
-use mathlib.Core.List.{List, [], ◌∷◌, map}
-use mathlib.Core.Bool.{Bool, true, false}
+use mathlib.Core.List.{[], ◌∷◌, map}
+use mathlib.Core.Bool.{true, false}
 use lib.IntN.{pos, negsuc}
 use Rattle.tree.specs.Coding.{hold_all}
 use Rattle.record.specs.declared.Block.TheVariants.{Level1, Level2, Level5}

@@ -1,13 +1,13 @@
 -- The division is exact at each of the 8,192 codes: a test that is computed at each, and the law that it says.
-use Prim.Native.Nat.{ℕ, zero, suc, ◌*◌, ◌<◌}
+use Prim.Native.Nat.{ℕ, zero, suc, ◌<◌}
 use mathlib.Core.Path.{◌≡◌, sym, subst}
-use mathlib.Core.Bool.{Bool, true, false, not, ◌&&◌, beq}
+use mathlib.Core.Bool.{Bool, true, false, ◌&&◌}
 use mathlib.Core.Logic.{⊎_elim}
 use native.Mathlib.Nat.{le_of_suc-le-suc, not-suc-le-zero, eq-or-lt_of_le}
 use lib.Dec.{T, eqb, eqb→eq}
-use lib.IntN.{ℤ, pos, negsuc, nat_abs}
-use lib.Signed.{mag, non_neg}
-use lib.Ieee.{Float, nan, inf, fin, binary32, to_bits, of_bits, div, of_int, up, down}
+use lib.IntN.{ℤ, pos, negsuc}
+use lib.Signed.{mag}
+use lib.Ieee.{Float, binary32, to_bits, of_bits, div, of_int}
 use Rattle.singles.specs.Singles.{single_bits, is_exactly}
 
 both_left : (a b : Bool) → T (a && b) → T a

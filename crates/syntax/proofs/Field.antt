@@ -1,17 +1,17 @@
 -- The values of a level's fields: which the fields hold, and the block that they make.
-use Prim.Native.Nat.{ℕ, suc, ◌-◌, ◌^◌}
+use Prim.Native.Nat.{ℕ, suc}
 use mathlib.Core.Path.{◌≡◌, refl, ap}
-use mathlib.Core.List.{List, [], ◌∷◌, map}
-use mathlib.Core.Bool.{Bool, true, false, cond}
+use mathlib.Core.List.{List, [], ◌∷◌}
+use mathlib.Core.Bool.{Bool, true, false}
 use native.Mathlib.Omega.{arith}
 use borrow.Author.Tests.{eqb-true}
-use lib.Dec.{eqb, ltb}
+use lib.Dec.{eqb}
 use lib.ListN.{length}
 use lib.IntN.{ℤ, pos, negsuc}
 use Rattle.tree.specs.Coding.{holds, hold_all, natural, Coding, unsigned}
 use Rattle.record.specs.declared.Block.{Block}
 use Rattle.record.specs.declared.Block.TheVariants.{Nothing, Level1, Level2, Level5}
-use Rattle.record.specs.Level.{level, known, codings, level_of, values_of}
+use Rattle.record.specs.Level.{known, codings, level_of, values_of}
 use Rattle.record.proofs.Laws.{and_left, and_right}
 use Rattle.syntax.specs.Data.{block_of}
 

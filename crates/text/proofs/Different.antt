@@ -5,13 +5,13 @@ use Prim.Native.String.{String}
 use Prim.Native.String as S
 use mathlib.Core.Path.{◌≡◌, refl, ap, sym, ◌∙◌}
 use mathlib.Core.List.{List, [], ◌∷◌, ◌++◌, append_assoc}
-use mathlib.Core.Bool.{true, false, not, ◌&&◌, and_assoc, and-eq-true_iff}
+use mathlib.Core.Bool.{true, not, ◌&&◌, and_assoc, and-eq-true_iff}
 use native.Mathlib.Omega.{arith}
 use native.Mathlib.Nat.{pow-succ'}
 use package.text.Mathlib.TextEquality.{Char-path}
 use borrow.Author.Tests.{eqb-false, ne_eqb, not-true}
 use lib.Dec.{eqb}
-use lib.IntN.{ℤ, pos, negsuc, nat_abs}
+use lib.IntN.{ℤ, pos, negsuc}
 use lib.ListN.{length, length-append}
 use Rattle.text.specs.Text.{ascii, size, digits, decimal, numeral, Line, line_text, text}
 use Rattle.text.specs.Told.{decimal_after, decimal_value, equals_sign, without, plain_key, plain_keys}

@@ -2,20 +2,19 @@
 use Prim.Native.Nat.{ℕ, ◌+◌, ◌<◌, ◌≤◌}
 use mathlib.Core.Path.{◌≡◌, refl, ap, sym}
 use mathlib.Core.List.{List, [], ◌∷◌, ◌++◌, append-nil}
-use mathlib.Core.Bool.{Bool, true, false, not, ◌&&◌, ◌||◌, and-true, and-false, and_assoc, or_assoc, and-eq-true_iff}
+use mathlib.Core.Bool.{Bool, true, false, not, ◌&&◌, ◌||◌, and-true, and-false, and_assoc, or_assoc}
 use native.Mathlib.Omega.{arith}
 use native.Mathlib.Numerals.{add-one}
-use borrow.Author.Tests.{ne_eqb, eq-eqb, eqb-true}
 use lib.Dec.{eqb}
-use lib.ListN.{length, get_or, take, drop, length-map, get_or-map}
-use lib.Seq.{take-suc, drop-cons, slice-cons, append_snoc}
+use lib.ListN.{length, take, drop, length-map, get_or-map}
+use lib.Seq.{slice-cons, append_snoc}
 use Rattle.tree.specs.Bits.{bit}
 use Rattle.record.specs.declared.Block.{Block}
 use Rattle.record.specs.declared.Block.TheVariants.{Nothing, Level1, Level2, Level5}
 use Rattle.record.specs.declared.Record.{Record}
-use Rattle.record.specs.Level.{level, level_of}
+use Rattle.record.specs.Level.{level_of}
 use Rattle.record.specs.Blocks.{empty_place, block_in, all_blocks}
-use Rattle.record.proofs.Laws.{tests, not_or, eqb_turned, block_at, take_more}
+use Rattle.record.proofs.Laws.{not_or, eqb_turned, block_at, take_more}
 use Rattle.valid.specs.Valid.{every, many, targets, among, all_differ, new_target, valid_block, may_follow, well_formed}
 
 -- ---- one list behind another

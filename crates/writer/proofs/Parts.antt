@@ -1,5 +1,5 @@
 -- Laws of the parts of a payload as the writer puts them: their lengths, and how they join.
-use Prim.Native.Nat.{ℕ, zero, suc, ◌+◌, ◌-◌, ◌*◌, ◌/◌, ◌%◌, ◌<◌, ◌≤◌}
+use Prim.Native.Nat.{ℕ, zero, suc, ◌+◌, ◌*◌, ◌/◌, ◌%◌, ◌<◌, ◌≤◌}
 use mathlib.Core.Path.{◌≡◌, refl, ap, sym, ◌∙◌}
 use mathlib.Core.List.{List, [], ◌∷◌, ◌++◌, map, append_assoc, append-nil}
 use mathlib.Core.Bool.{Bool, true, false, cond}
@@ -7,7 +7,7 @@ use native.Mathlib.Omega.{arith}
 use borrow.Author.Tests.{ltb-true}
 use lib.Dec.{ltb}
 use lib.IntN.{ℤ, pos, negsuc}
-use lib.ListN.{length, get_or, take, drop, replicate, length-append, length-take, take-append-drop}
+use lib.ListN.{length, take, drop, replicate, length-append, length-take, take-append-drop}
 use lib.Signed.{mag}
 use Rattle.tree.specs.Bits.{bit, code, bits_of, pack, Bytes}
 use Rattle.tree.specs.Codes.{halvings, ue_code}

@@ -1,5 +1,4 @@
 -- `bits::field` meets its contract: 32 bits hold the number.
-use borrow.Author.Rules.{rules}
 use native.Mathlib.Omega.{arith}
 use lib.ListN.{drop}
 use Rattle.tree.specs.Bits.{bits_of}

@@ -3,7 +3,6 @@ use Prim.Native.Nat.{ℕ, suc, ◌+◌, ◌-◌, ◌*◌, ◌/◌, ◌^◌, ◌<
 use mathlib.Core.Path.{◌≡◌, ap, sym, ◌∙◌}
 use mathlib.Core.List.{List}
 use mathlib.Core.Bool.{Bool}
-use mathlib.Core.Logic.{⊎_elim}
 use native.Mathlib.Omega.{arith}
 use native.Mathlib.Nat.{pow-suc}
 use lib.ListN.{length, take, drop}
@@ -11,9 +10,8 @@ use lib.Pow.{pow_mono, pow_pos}
 use Rattle.tree.specs.Bits.{bits_of, value}
 use Rattle.tree.proofs.Bits.{length_rest, value-take_lt}
 use Rattle.window.proofs.Laws.{joined, front}
-use Rattle.bits.specs.Answer.{number_of, zeros_that_fit}
+use Rattle.bits.specs.Answer.{number_of}
 use Rattle.bits.proofs.Reading.{byte_more, ue_cut, ue_is}
-use borrow.Author.Rules.{rules}
 use Rattle.bits.proofs.read_code.Goals as goal
 use Rattle.bits.proofs.read_code.Goals.{then-have-width+else-s-next, else-have-width}
 

@@ -1,18 +1,8 @@
-use Prim.Native.Nat.{ℕ, suc, ◌+◌, ◌-◌, ◌*◌, ◌/◌, ◌^◌, ◌<◌, ◌≤◌}
-use mathlib.Core.Path.{◌≡◌, ap, sym, ◌∙◌}
-use mathlib.Core.List.{List}
-use mathlib.Core.Bool.{Bool}
-use mathlib.Core.Logic.{⊎_elim}
-use native.Mathlib.Omega.{arith}
-use native.Mathlib.Nat.{pow-suc}
+use Prim.Native.Nat.{◌+◌, ◌-◌, ◌*◌, ◌<◌, ◌≤◌}
+use mathlib.Core.Path.{◌≡◌}
 use lib.ListN.{length, take, drop}
-use lib.Pow.{pow_mono, pow_pos}
 use Rattle.tree.specs.Bits.{bits_of, value}
-use Rattle.tree.proofs.Bits.{length_rest, value-take_lt}
-use Rattle.window.proofs.Laws.{joined, front}
-use Rattle.bits.specs.Answer.{number_of, zeros_that_fit}
-use Rattle.bits.proofs.Reading.{byte_more, ue_cut, ue_is}
-use borrow.Author.Rules.{rules}
+use Rattle.bits.specs.Answer.{zeros_that_fit}
 use Rattle.bits.proofs.read_code.Given as goal
 
 abbrev pub invariant-loop-n : goal.invariant-loop-n

@@ -1,14 +1,13 @@
 -- `bits::read_lead` meets its contract: while all bits are zeros, the next byte is all that counts.
-use Prim.Native.Nat.{◌+◌, ◌-◌, ◌*◌, ◌/◌, ◌%◌, ◌<◌, ◌≤◌}
+use Prim.Native.Nat.{◌+◌, ◌-◌, ◌/◌, ◌%◌}
 use mathlib.Core.Path.{◌≡◌, refl, ap, sym}
 use native.Mathlib.Omega.{arith}
-use lib.ListN.{length, take, drop}
+use lib.ListN.{take, drop}
 use Rattle.tree.specs.Bits.{bits_of, value, value_from}
 use Rattle.tree.proofs.Bits.{length_rest}
 use Rattle.window.proofs.Laws.{shl_one, shl_some}
 use Rattle.bits.specs.Answer.{number_of}
 use Rattle.bits.proofs.Reading.{rest_of_byte, byte_more, ue_end, ue_overlong}
-use borrow.Author.Rules.{rules}
 use Rattle.bits.proofs.read_lead.Goals as goal
 
 pub returns-then-s-i : goal.returns-then-s-i

@@ -1,13 +1,7 @@
-use Prim.Native.Nat.{◌+◌, ◌-◌, ◌*◌, ◌/◌, ◌%◌, ◌<◌, ◌≤◌}
-use mathlib.Core.Path.{◌≡◌, refl, ap, sym}
-use native.Mathlib.Omega.{arith}
+use Prim.Native.Nat.{◌+◌, ◌-◌, ◌*◌, ◌<◌, ◌≤◌}
+use mathlib.Core.Path.{◌≡◌}
 use lib.ListN.{length, take, drop}
-use Rattle.tree.specs.Bits.{bits_of, value, value_from}
-use Rattle.tree.proofs.Bits.{length_rest}
-use Rattle.window.proofs.Laws.{shl_one, shl_some}
-use Rattle.bits.specs.Answer.{number_of}
-use Rattle.bits.proofs.Reading.{rest_of_byte, byte_more, ue_end, ue_overlong}
-use borrow.Author.Rules.{rules}
+use Rattle.tree.specs.Bits.{bits_of, value}
 use Rattle.bits.proofs.read_lead.Given as goal
 
 abbrev pub invariant-loop-v : goal.invariant-loop-v

@@ -8,7 +8,6 @@ use Rattle.tree.proofs.Bits.{length_rest}
 use Rattle.tree.proofs.Elements.{u_ok, u_short}
 use Rattle.bits.specs.declared.Number.TheVariants.{Is}
 use Rattle.bits.specs.Answer.{nameless, number_of}
-use borrow.Author.Rules.{rules}
 use Rattle.bits.proofs.read_u.Goals as goal
 
 pub returns-then-n-eq0 : goal.returns-then-n-eq0

@@ -1,5 +1,4 @@
 -- `bits::read_ue` meets its contract: the byte that holds the first one tells how many zeros there are, and so how wide the code is.
-use borrow.Author.Rules.{rules}
 use Prim.Native.Nat.{ℕ, ◌+◌, ◌-◌, ◌/◌, ◌^◌}
 use mathlib.Core.Path.{◌≡◌, ap, sym, ◌∙◌}
 use native.Mathlib.Omega.{arith}

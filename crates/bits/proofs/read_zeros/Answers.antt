@@ -10,7 +10,7 @@ use Rattle.tree.proofs.Bits.{length_rest}
 use Rattle.refusals.specs.Refusals.{past_end}
 use Rattle.bits.specs.Answer.{refused_number, span_of}
 use Rattle.bits.proofs.Reading.{zeros_end}
-use Rattle.bits.proofs.Zeros.{Checked, checked_none, checked_broken, checked_end, checked_more, checked_last_broken, checked_all}
+use Rattle.bits.proofs.Zeros.{checked_none, checked_broken, checked_end, checked_more, checked_last_broken, checked_all}
 use Rattle.bits.proofs.read_zeros.Goals as goal
 
 pub returns-then-n-eq0 : goal.returns-then-n-eq0

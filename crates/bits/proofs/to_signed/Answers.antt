@@ -1,5 +1,4 @@
 -- `bits::to_signed` meets its contract: half of 2 ^ n up, round, and down again.
-use borrow.Author.Rules.{rules}
 use Rattle.bits.proofs.Signed.{sum_of_halves, whole_is_some, turned_fits, half_fits, difference_fits, signed_fits, signed_is}
 use Rattle.bits.proofs.to_signed.Goals as goal
 

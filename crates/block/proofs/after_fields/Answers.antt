@@ -13,7 +13,6 @@ use Rattle.record.specs.Level.{padding}
 use Rattle.syntax.specs.Data.{kept}
 use Rattle.block.specs.Parts.{after_fields}
 use Rattle.block.proofs.Laws.{first_told, ordered, in_order_lem, out_of_order, read_closing}
-use borrow.Author.Rules.{rules}
 use Rattle.block.proofs.after_fields.Goals as goal
 
 pub returns-in-Refused : goal.returns-in-Refused

@@ -14,7 +14,6 @@ use Rattle.bits.proofs.Reading.{is_ok, named_u, refused_u}
 use Rattle.record.specs.Name.{ext_block_level}
 use Rattle.block.specs.Parts.{body, after_length, part_behind, part_took}
 use Rattle.block.proofs.Laws.{content_bits, first_told, took_few, second_on, read-level, takes_body}
-use borrow.Author.Rules.{rules}
 use Rattle.block.proofs.after_length.Goals as goal
 
 pub overflow_add-at : goal.overflow_add-at

@@ -2,7 +2,6 @@
 use Prim.Native.Nat.{◌+◌, ◌<◌, ◌^◌}
 use mathlib.Core.Path.{◌≡◌}
 use Rattle.block.specs.declared.Part.TheVariants.{Kept, Passed, Refused}
-use borrow.Author.Rules.{rules}
 use Rattle.block.proofs.behind.Goals as goal
 
 pub overflow_add-result : goal.overflow_add-result

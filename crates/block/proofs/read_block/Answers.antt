@@ -14,7 +14,6 @@ use Rattle.record.specs.Name.{ext_block_length}
 use Rattle.syntax.specs.Data.{block}
 use Rattle.block.specs.Parts.{after_length, part_behind, part_took}
 use Rattle.block.proofs.Laws.{content_bits, first_told, took_few, second_on, read_length, takes_length, takes_after_length}
-use borrow.Author.Rules.{rules}
 use Rattle.block.proofs.read_block.Goals as goal
 
 pub overflow_add-at : goal.overflow_add-at

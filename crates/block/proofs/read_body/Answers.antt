@@ -3,7 +3,6 @@ use mathlib.Core.Path.{◌∙◌, sym}
 use lib.ListN.{drop}
 use Rattle.tree.specs.Bits.{bits_of}
 use Rattle.block.proofs.Laws.{body-length, body_is, body_too_long, body-reserved}
-use borrow.Author.Rules.{rules}
 use Rattle.block.proofs.read_body.Goals as goal
 
 pub returns-then-size-bytes : goal.returns-then-size-bytes

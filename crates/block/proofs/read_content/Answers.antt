@@ -13,7 +13,6 @@ use Rattle.syntax.specs.Data.{block_of}
 use Rattle.fields.proofs.Laws.{step_ok, step_no}
 use Rattle.block.specs.Parts.{after_fields, content_from, part_behind, part_took}
 use Rattle.block.proofs.Laws.{content_bits, first_no, second_on, read_fields, few_fields, few_zeros}
-use borrow.Author.Rules.{rules}
 use Rattle.block.proofs.read_content.Goals as goal
 
 pub overflow_add-at : goal.overflow_add-at

@@ -2,7 +2,6 @@
 use mathlib.Core.Path.{◌∙◌}
 use native.Mathlib.Omega.{arith}
 use Rattle.block.proofs.Laws.{passed_over, cut_short}
-use borrow.Author.Rules.{rules}
 use Rattle.block.proofs.skip.Goals as goal
 
 pub returns-then-s-at : goal.returns-then-s-at

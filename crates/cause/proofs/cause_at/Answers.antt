@@ -17,7 +17,6 @@ use Rattle.cause.specs.Cause.{range, cause_in}
 use Rattle.cause.specs.Shown.{Shown, ShownCode}
 use Rattle.cause.proofs.Laws.{told_is_shown, code_again, code_short}
 use Rattle.cause.proofs.Functions.{not_told, not_zero_lem, bytes_remain_lem, of_a_code}
-use borrow.Author.Rules.{rules}
 use Rattle.cause.proofs.cause_at.Goals as goal
 
 -- what two answers of a code that was read have in common

@@ -10,7 +10,6 @@ use Rattle.syntax.specs.Data.{bare_data}
 use Rattle.cause.specs.Cause.{cause_in}
 use Rattle.cause.specs.Shown.{number_behind}
 use Rattle.cause.proofs.Functions.{further, wrong_length_lem, not_in_order_lem, repeated_target_lem, surplus}
-use borrow.Author.Rules.{rules}
 use Rattle.cause.proofs.of_block.Goals as goal
 
 pub field-level-requires : goal.field-level-requires

@@ -5,7 +5,6 @@ use Rattle.tree.specs.Bits.{bits_of}
 use Rattle.syntax.specs.Data.{bare_data}
 use Rattle.cause.specs.Cause.{cause_in}
 use Rattle.cause.proofs.Functions.{wrong_identifier_lem, wrong_version_lem, too_many_blocks_lem, of_a_block}
-use borrow.Author.Rules.{rules}
 use Rattle.cause.proofs.of_code.Goals as goal
 
 pub returns-then-number-eq-WRONG_IDENTIFIER : goal.returns-then-number-eq-WRONG_IDENTIFIER

@@ -1,6 +1,5 @@
 -- `cause::of_length` meets its contract.
 use mathlib.Core.Path.{refl, sym, ◌∙◌}
-use borrow.Author.Rules.{rules}
 use Rattle.cause.proofs.of_length.Goals as goal
 
 pub returns-then-is_known : goal.returns-then-is_known

@@ -1,5 +1,4 @@
 -- `element::number_of` meets its contract, name by name.
-use borrow.Author.Rules.{rules}
 use Rattle.element.proofs.number_of.Goals as goal
 
 pub returns-in-Nothing : goal.returns-in-Nothing

@@ -3,7 +3,6 @@ use native.Mathlib.Omega.{arith}
 use native.Mathlib.Nat.{mod-lt, lt_of_lt_of_le}
 use lib.Pow.{pow_pos, pow_mono}
 use Rattle.window.proofs.Laws.{shl_one, shl_some}
-use borrow.Author.Rules.{rules}
 use Rattle.fields.proofs.field_in.Goals as goal
 
 pub nonzero_rem-result : goal.nonzero_rem-result

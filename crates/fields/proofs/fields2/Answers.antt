@@ -6,7 +6,6 @@ use mir.Val.{to_z, of_z}
 use mir.ValLaws.{to_z-of_z}
 use Rattle.tree.specs.Coding.{total_width}
 use Rattle.tree.specs.Reading.{signed_of}
-use borrow.Author.Rules.{rules}
 use Rattle.fields.proofs.Laws.{fields_is, fields_refused, signed_fits}
 use Rattle.fields.proofs.fields2.Goals as goal
 

@@ -2,7 +2,6 @@
 use mathlib.Core.Path.{refl, ◌∙◌}
 use native.Mathlib.Omega.{arith}
 use Rattle.tree.specs.Coding.{total_width}
-use borrow.Author.Rules.{rules}
 use Rattle.fields.proofs.Laws.{fields_is, fields_refused}
 use Rattle.fields.proofs.fields5.Goals as goal
 

@@ -7,7 +7,6 @@ use Rattle.tree.specs.Reading.{mapped}
 use Rattle.tree.specs.Syntax.{row, read}
 use Rattle.record.specs.Level.{fields_of}
 use Rattle.syntax.specs.Data.{block_of}
-use borrow.Author.Rules.{rules}
 use Rattle.fields.specs.Step.{step_of}
 use Rattle.fields.proofs.Laws.{fields_none}
 use Rattle.fields.proofs.fields_of.Goals as goal

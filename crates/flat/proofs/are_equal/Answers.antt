@@ -1,5 +1,4 @@
 -- `flat::are_equal` meets its contract: the first k numbers of both are equal.
-use Prim.Native.Nat.{◌-◌, ◌≤◌}
 use mathlib.Core.Path.{◌≡◌, refl, sym, ap, ◌∙◌}
 use mathlib.Core.Bool.{Bool, ◌&&◌}
 use native.Mathlib.Numerals.{add-one}

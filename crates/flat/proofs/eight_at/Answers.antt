@@ -1,11 +1,11 @@
 -- `flat::eight_at` meets its contract: the first k numbers are copied.
-use Prim.Native.Nat.{◌+◌, ◌-◌, ◌≤◌}
+use Prim.Native.Nat.{◌+◌}
 use mathlib.Core.Path.{◌≡◌, refl, sym, ap, ◌∙◌}
-use mathlib.Core.List.{List, ◌++◌, append-nil}
+use mathlib.Core.List.{List, append-nil}
 use native.Mathlib.Numerals.{add-one}
 use native.Mathlib.Omega.{arith}
 use lib.IntN.{ℤ, pos}
-use lib.ListN.{take, drop, get_or, set, replicate, length-drop}
+use lib.ListN.{drop, get_or, set, replicate, length-drop}
 use lib.Seq.{get_or-drop}
 use mir.Syntax.{w32}
 use mir.ValLaws.{to_z-of_z}

@@ -1,5 +1,4 @@
 -- `flat::eight_of` meets its contract, level by level.
-use borrow.Author.Rules.{rules}
 use native.Mathlib.Omega.{arith}
 use mir.Syntax.{w16, w32}
 use Rattle.bits.proofs.Casts.{wider}

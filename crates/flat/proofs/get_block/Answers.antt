@@ -4,7 +4,6 @@ use mathlib.Core.Bool.{Bool, cond}
 use lib.ListN.{take, drop}
 use Rattle.record.specs.declared.Block.TheVariants.{Nothing}
 use Rattle.flat.specs.Flat.{place_length, block_said, names_block, block_named}
-use borrow.Author.Rules.{rules}
 use Rattle.flat.proofs.get_block.Goals as goal
 
 pub returns-then-are_equal : goal.returns-then-are_equal

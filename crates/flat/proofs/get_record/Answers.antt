@@ -1,5 +1,4 @@
 -- `flat::get_record` meets its contract.
-use borrow.Author.Rules.{rules}
 use Rattle.flat.proofs.get_record.Goals as goal
 
 pub returns : goal.returns

@@ -1,5 +1,4 @@
 -- `flat::not_valid` meets its contract.
-use borrow.Author.Rules.{rules}
 use Rattle.flat.specs.Flat.{unnamed_record}
 use Rattle.flat.proofs.not_valid.Goals as goal
 

@@ -1,11 +1,10 @@
 -- `flat::put_places` meets its contract: the first i places are pasted.
-use Prim.Native.Nat.{◌+◌, ◌-◌, ◌*◌, ◌≤◌}
+use Prim.Native.Nat.{◌+◌, ◌*◌}
 use mathlib.Core.Path.{◌≡◌, refl, sym, ap, ◌∙◌}
 use mathlib.Core.List.{List}
 use native.Mathlib.Omega.{arith}
-use borrow.Author.Rules.{rules}
 use lib.IntN.{ℤ}
-use lib.ListN.{length, take, drop, get_or, length-map}
+use lib.ListN.{length, take, drop, get_or}
 use lib.Seq.{paste, paste-zero, take_all}
 use Rattle.record.specs.Blocks.{block_in, empty_place}
 use Rattle.flat.specs.Flat.{flat_block, flat_places}

@@ -1,15 +1,8 @@
 use Prim.Native.Nat.{◌+◌, ◌-◌, ◌*◌, ◌≤◌}
-use mathlib.Core.Path.{◌≡◌, refl, sym, ap, ◌∙◌}
-use mathlib.Core.List.{List}
-use native.Mathlib.Omega.{arith}
-use borrow.Author.Rules.{rules}
-use lib.IntN.{ℤ}
-use lib.ListN.{length, take, drop, get_or, length-map}
-use lib.Seq.{paste, paste-zero, take_all}
-use Rattle.record.specs.Blocks.{block_in, empty_place}
-use Rattle.flat.specs.Flat.{flat_block, flat_places}
-use Rattle.flat.proofs.Rows.{paste_more}
-use Rattle.flat.proofs.Places.{length_eight, length-places, places_at}
+use mathlib.Core.Path.{◌≡◌}
+use lib.ListN.{length}
+use lib.Seq.{paste}
+use Rattle.flat.specs.Flat.{flat_places}
 use Rattle.flat.proofs.put_places.Given as goal
 
 abbrev pub invariant-loop-i : goal.invariant-loop-i

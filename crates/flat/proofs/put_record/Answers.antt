@@ -1,7 +1,6 @@
 -- `flat::put_record` meets its contract: the flag, the count, then the places.
 use mathlib.Core.Path.{◌∙◌}
 use native.Mathlib.Omega.{arith}
-use borrow.Author.Rules.{rules}
 use lib.ListN.{length-set}
 use Rattle.flat.proofs.Places.{record_pasted}
 use Rattle.flat.proofs.put_record.Goals as goal

@@ -1,9 +1,7 @@
 -- `head::behind` meets its contract: the width is added, and a refusal is passed on.
 use Prim.Native.Nat.{◌+◌, ◌<◌, ◌^◌}
 use mathlib.Core.Path.{◌≡◌}
-use native.Mathlib.Omega.{arith}
 use Rattle.head.specs.declared.Opening.TheVariants.{Is, Refused}
-use borrow.Author.Rules.{rules}
 use Rattle.head.proofs.behind.Goals as goal
 
 pub overflow_add-result : goal.overflow_add-result

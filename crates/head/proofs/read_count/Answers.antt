@@ -3,7 +3,6 @@ use mathlib.Core.Path.{◌∙◌, sym}
 use native.Mathlib.Omega.{arith}
 use lib.ListN.{drop}
 use Rattle.tree.specs.Bits.{bits_of}
-use borrow.Author.Rules.{rules}
 use Rattle.head.proofs.Laws.{count_no, count_is, count_many}
 use Rattle.head.proofs.read_count.Goals as goal
 

@@ -9,7 +9,6 @@ use Rattle.tree.proofs.Elements.{u_took}
 use Rattle.bits.specs.Answer.{nameless}
 use Rattle.bits.proofs.Reading.{is_ok}
 use Rattle.syntax.specs.Data.{block_count}
-use borrow.Author.Rules.{rules}
 use Rattle.head.specs.Opening.{opening_behind, opening_took}
 use Rattle.head.proofs.Laws.{longest, took_few, brief_count, flag_no, flag_off, flag_on}
 use Rattle.head.proofs.read_flag.Goals as goal

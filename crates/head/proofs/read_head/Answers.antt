@@ -5,7 +5,6 @@ use Rattle.tree.specs.Bits.{bits_of}
 use Rattle.tree.specs.Reading.{ok}
 use Rattle.tree.specs.Syntax.{read}
 use Rattle.syntax.specs.Data.{announced, head}
-use borrow.Author.Rules.{rules}
 use Rattle.head.proofs.Laws.{opening_ok, head_short, head_no, head_on}
 use Rattle.head.proofs.read_head.Goals as goal
 

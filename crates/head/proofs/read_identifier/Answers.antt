@@ -9,7 +9,6 @@ use Rattle.tree.specs.Syntax.{read}
 use native.Mathlib.Nat.{zero-add}
 use Rattle.record.specs.Name.{app_identifier}
 use Rattle.syntax.specs.Data.{head}
-use borrow.Author.Rules.{rules}
 use Rattle.head.specs.Opening.{opening_behind, opening_took, opening_of, from_flag, from_version}
 use Rattle.head.proofs.Laws.{longest, ue_short, took_few, brief_version, one_no, one_other, one_on}
 use Rattle.head.proofs.read_identifier.Goals as goal

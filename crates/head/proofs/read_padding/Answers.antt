@@ -10,7 +10,6 @@ use Rattle.tree.specs.Reading.{to_boundary}
 use Rattle.tree.specs.Syntax.{read, zero_bits}
 use Rattle.bits.specs.Answer.{nameless, span_of}
 use Rattle.syntax.specs.Data.{announced}
-use borrow.Author.Rules.{rules}
 use Rattle.head.specs.Opening.{opening_behind}
 use Rattle.head.proofs.Laws.{aligned_no, aligned_took, aligned_is}
 use Rattle.head.proofs.read_padding.Goals as goal

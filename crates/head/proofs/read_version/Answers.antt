@@ -1,12 +1,11 @@
 -- `head::read_version` meets its contract: the version is checked, then what follows it is read.
 use Prim.Native.Nat.{◌+◌, ◌≤◌}
-use mathlib.Core.Path.{◌≡◌, ◌∙◌, ap, sym}
+use mathlib.Core.Path.{◌∙◌, ap, sym}
 use native.Mathlib.Omega.{arith}
 use lib.ListN.{drop}
 use Rattle.refusals.specs.Refusals.{wrong_version}
 use Rattle.tree.specs.Bits.{bits_of}
 use Rattle.record.specs.Name.{app_version}
-use borrow.Author.Rules.{rules}
 use Rattle.head.specs.Opening.{opening_behind, opening_took, from_flag, from_version}
 use Rattle.head.proofs.Laws.{longest, ue_short, took_few, brief_flag, one_no, one_other, one_on}
 use Rattle.head.proofs.read_version.Goals as goal

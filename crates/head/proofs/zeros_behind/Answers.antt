@@ -1,6 +1,5 @@
 -- `head::zeros_behind` meets its contract.
 use native.Mathlib.Omega.{arith}
-use borrow.Author.Rules.{rules}
 use Rattle.head.proofs.zeros_behind.Goals as goal
 
 pub returns-then-test : goal.returns-then-test

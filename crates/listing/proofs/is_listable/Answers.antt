@@ -1,5 +1,4 @@
 -- `listing::is_listable` meets its contract.
-use borrow.Author.Rules.{rules}
 use Rattle.listing.proofs.is_listable.Goals as goal
 
 pub returns : goal.returns

@@ -1,5 +1,4 @@
 -- `listing::put_accepted` meets its contract: the head, then the blocks.
-use borrow.Author.Rules.{rules}
 use Prim.Native.Nat.{ℕ}
 use mathlib.Core.Path.{sym, subst}
 use mathlib.Core.List.{List}

@@ -1,5 +1,4 @@
 -- `listing::put_block` meets its contract: the level, then the fields.
-use borrow.Author.Rules.{rules}
 use lib.IntN.{pos}
 use Rattle.text.specs.Text.{ascii, line}
 use Rattle.text.proofs.Lines.{room_one, after_one, typed_one}

@@ -1,14 +1,12 @@
 -- `listing::put_blocks` meets its contract: the first j blocks are put.
-use Prim.Native.Nat.{◌-◌, ◌≤◌}
-use mathlib.Core.Path.{◌≡◌, sym, ◌∙◌}
+use mathlib.Core.Path.{◌≡◌}
 use native.Mathlib.Omega.{arith}
-use lib.ListN.{length, length-map}
-use Rattle.text.specs.Typing.{Typed}
+use lib.ListN.{length}
 use Rattle.text.proofs.Typing.{typed_then}
 use Rattle.text.proofs.Lines.{typed_none}
 use Rattle.record.specs.Blocks.{most_blocks}
 use Rattle.listing.specs.Listing.{blocks_lines}
-use Rattle.listing.proofs.Blocks.{before, text_more, room_next}
+use Rattle.listing.proofs.Blocks.{text_more, room_next}
 use Rattle.listing.proofs.put_blocks.Goals as goal
 
 pub loop-j-init : goal.loop-j-init

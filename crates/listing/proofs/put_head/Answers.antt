@@ -1,5 +1,4 @@
 -- `listing::put_head` meets its contract.
-use borrow.Author.Rules.{rules}
 use mathlib.Core.List.{[], ◌∷◌}
 use lib.IntN.{pos}
 use Rattle.tree.specs.Bits.{bit}

@@ -1,5 +1,4 @@
 -- `listing::put_level2` meets its contract.
-use borrow.Author.Rules.{rules}
 use mathlib.Core.List.{[], ◌∷◌}
 use lib.IntN.{pos}
 use Rattle.text.specs.Text.{ascii, line}

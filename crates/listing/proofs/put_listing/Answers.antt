@@ -2,7 +2,6 @@
 use Prim.Native.Nat.{ℕ}
 use mathlib.Core.Path.{sym, subst}
 use mathlib.Core.List.{List}
-use borrow.Author.Rules.{rules}
 use Rattle.text.specs.Text.{ascii}
 use Rattle.text.specs.Typing.{RoomForText, Typed}
 use Rattle.listing.proofs.Cases.{accepted_text, refused_text, accepted_few}

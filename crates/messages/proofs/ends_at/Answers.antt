@@ -1,5 +1,4 @@
 -- `messages::ends_at` meets its contract.
-use borrow.Author.Rules.{rules}
 use Rattle.messages.proofs.Reading.{end_alone, end_byte}
 use Rattle.messages.proofs.ends_at.Goals as goal
 

@@ -1,13 +1,12 @@
 -- `messages::find_ours` meets its contract. The invariant: the answer from here, with the first of ours so far, is the answer from the start.
-use Prim.Native.Nat.{◌+◌, ◌-◌, ◌≤◌, ◌<◌}
+use Prim.Native.Nat.{◌+◌, ◌≤◌, ◌<◌}
 use mathlib.Core.Path.{◌≡◌, refl, sym, ◌∙◌}
 use native.Mathlib.Omega.{arith}
 use lib.ListN.{length, drop}
-use borrow.Author.Rules.{rules}
 use Rattle.rbsp.specs.Message.{frame_of}
 use Rattle.messages.specs.Answer.{framed_at}
 use Rattle.messages.specs.declared.Framed.TheVariants.{Is}
-use Rattle.messages.proofs.Reading.{Reached, reached_none, reached_broken, reached_place, reached_all, reached_more, within_first}
+use Rattle.messages.proofs.Reading.{reached_none, reached_broken, reached_place, reached_all, reached_more, within_first}
 use Rattle.messages.proofs.find_ours.Goals as goal
 
 pub loop-kind-init : goal.loop-kind-init

@@ -1,12 +1,6 @@
-use Prim.Native.Nat.{◌+◌, ◌-◌, ◌≤◌, ◌<◌}
-use mathlib.Core.Path.{◌≡◌, refl, sym, ◌∙◌}
-use native.Mathlib.Omega.{arith}
-use lib.ListN.{length, drop}
-use borrow.Author.Rules.{rules}
-use Rattle.rbsp.specs.Message.{frame_of}
-use Rattle.messages.specs.Answer.{framed_at}
-use Rattle.messages.specs.declared.Framed.TheVariants.{Is}
-use Rattle.messages.proofs.Reading.{Reached, reached_none, reached_broken, reached_place, reached_all, reached_more, within_first}
+use Prim.Native.Nat.{◌-◌}
+use lib.ListN.{length}
+use Rattle.messages.proofs.Reading.{Reached}
 use Rattle.messages.proofs.find_ours.Given as goal
 
 abbrev pub invariant-loop-kind : goal.invariant-loop-kind

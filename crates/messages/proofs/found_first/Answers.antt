@@ -1,5 +1,4 @@
 -- `messages::found_first` meets its contract.
-use borrow.Author.Rules.{rules}
 use Rattle.messages.proofs.found_first.Goals as goal
 
 pub returns-then-first : goal.returns-then-first

@@ -1,6 +1,5 @@
 -- `messages::note_message` meets its contract.
 use mathlib.Core.Path.{◌≡◌, sym, ap, ◌∙◌}
-use borrow.Author.Rules.{rules}
 use Rattle.syntax.specs.Wrapper.{wrapper_bytes}
 use Rattle.wrapper.specs.Wrapper.{begins_with}
 use Rattle.messages.specs.Answer.{content_at}

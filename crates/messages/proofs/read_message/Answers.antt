@@ -1,6 +1,5 @@
 -- `messages::read_message` meets its contract: the type is read, and what is behind it.
 use mathlib.Core.Path.{sym, ◌∙◌}
-use borrow.Author.Rules.{rules}
 use Rattle.messages.proofs.Reading.{message_past, message-typed}
 use Rattle.messages.proofs.read_message.Goals as goal
 

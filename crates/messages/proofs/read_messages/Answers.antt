@@ -3,7 +3,6 @@ use Prim.Native.Nat.{◌+◌, ◌≤◌}
 use mathlib.Core.Path.{sym, ap, ◌∙◌}
 use native.Mathlib.Omega.{arith}
 use lib.ListN.{length}
-use borrow.Author.Rules.{rules}
 use Rattle.wrapper.specs.Wrapper.{read_wrapped}
 use Rattle.rbsp.specs.Message.{messages_in}
 use Rattle.messages.specs.Answer.{content_at, stands_at}

@@ -1,11 +1,7 @@
 -- `messages::read_number` meets its contract: the answer from here, with what is counted, is the answer from the start.
-use Prim.Native.Nat.{◌≤◌, ◌-◌, ◌*◌}
-use mathlib.Core.Path.{◌≡◌, sym, ◌∙◌}
+use mathlib.Core.Path.{sym, ◌∙◌}
 use native.Mathlib.Omega.{arith}
-use lib.ListN.{length, drop}
-use Rattle.rbsp.specs.Message.{chain}
-use Rattle.messages.specs.Answer.{number_at}
-use Rattle.messages.proofs.Reading.{number_from, number_first, number_past, number_last, number_more}
+use Rattle.messages.proofs.Reading.{number_first, number_past, number_last, number_more}
 use Rattle.messages.proofs.read_number.Goals as goal
 
 pub loop-at-init : goal.loop-at-init

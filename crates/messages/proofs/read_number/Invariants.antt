@@ -1,10 +1,9 @@
 use Prim.Native.Nat.{◌≤◌, ◌-◌, ◌*◌}
-use mathlib.Core.Path.{◌≡◌, sym, ◌∙◌}
-use native.Mathlib.Omega.{arith}
+use mathlib.Core.Path.{◌≡◌}
 use lib.ListN.{length, drop}
 use Rattle.rbsp.specs.Message.{chain}
 use Rattle.messages.specs.Answer.{number_at}
-use Rattle.messages.proofs.Reading.{number_from, number_first, number_past, number_last, number_more}
+use Rattle.messages.proofs.Reading.{number_from}
 use Rattle.messages.proofs.read_number.Given as goal
 
 abbrev pub invariant-loop-at : goal.invariant-loop-at

@@ -1,7 +1,6 @@
 -- `messages::read_size` meets its contract: the size is read, and judged by what is left.
 use mathlib.Core.Path.{◌≡◌, sym, ◌∙◌}
 use lib.ListN.{drop}
-use borrow.Author.Rules.{rules}
 use Rattle.rbsp.specs.Message.{chain}
 use Rattle.messages.specs.Answer.{number_at}
 use Rattle.messages.specs.declared.Number.TheVariants.{PastEnd, Is}

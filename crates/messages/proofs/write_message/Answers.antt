@@ -1,11 +1,10 @@
 -- `messages::write_message` meets its contract: the wrapped payload is written into its part or refused, and then the bytes around it are written.
 use Prim.Native.Nat.{◌+◌, ◌-◌, ◌≤◌}
-use mathlib.Core.Path.{◌≡◌, sym, ap, ◌∙◌}
+use mathlib.Core.Path.{◌≡◌, ap, ◌∙◌}
 use mathlib.Core.Bool.{true}
 use native.Mathlib.Omega.{arith}
-use borrow.Author.Rules.{rules}
 use borrow.Rule.Slice.PartMut.{put_mid, put_same}
-use lib.ListN.{length, length-map, length-set}
+use lib.ListN.{length, length-set}
 use Rattle.record.specs.Blocks.{most_blocks}
 use Rattle.valid.specs.Valid.{valid}
 use Rattle.syntax.specs.Wrapper.{wrapped_payload}

@@ -1,7 +1,6 @@
 -- `met::including` meets its contract.
 use mathlib.Core.Path.{◌≡◌, refl, ◌∙◌}
 use mathlib.Core.List.{List, [], ◌∷◌, ◌++◌}
-use borrow.Author.Rules.{rules}
 use Rattle.record.specs.declared.Block.{Block}
 use Rattle.met.specs.declared.Met.{Met}
 use Rattle.met.specs.Met.{met_of}

@@ -5,7 +5,6 @@ use mathlib.Core.List.{List}
 use mathlib.Core.Bool.{false}
 use native.Mathlib.Omega.{arith}
 use borrow.Author.Tests.{lt-ltb, le-ltb}
-use borrow.Author.Rules.{rules}
 use Rattle.record.specs.declared.Block.{Block}
 use Rattle.valid.specs.Valid.{may_follow, repeat_number}
 use Rattle.met.specs.declared.Met.{Met}

@@ -1,6 +1,5 @@
 -- `met::target_of` meets its contract.
 use mathlib.Core.Path.{refl}
-use borrow.Author.Rules.{rules}
 use Rattle.met.proofs.target_of.Goals as goal
 
 pub returns-in-Level2 : goal.returns-in-Level2

@@ -7,7 +7,6 @@ use Rattle.text.specs.Typing.{RoomForText, Typed}
 use Rattle.element.specs.Element.{number_of}
 use Rattle.name.specs.Name.{name_of, starts}
 use native.Mathlib.Omega.{arith}
-use borrow.Author.Rules.{rules}
 use Rattle.text.specs.Text.{ascii}
 use Rattle.name.proofs.Laws.{row, stands}
 use Rattle.name.proofs.put_name.Goals as goal

@@ -1,6 +1,5 @@
 -- `pen::put_bit` meets its contract: the bit waits, or the eight are written.
 use native.Mathlib.Omega.{arith}
-use borrow.Author.Rules.{rules}
 use Rattle.pen.proofs.Writing.{held_bit, stored_bit, small}
 use Rattle.pen.proofs.put_bit.Goals as goal
 

@@ -1,5 +1,4 @@
 -- `pen::put_i` meets its contract: u(n) of the number that stands for v.
-use borrow.Author.Rules.{rules}
 use mathlib.Core.Path.{◌≡◌, ◌∙◌, ap}
 use mir.ValLaws.{to_z-of_z}
 use mir.Syntax.{w32}

@@ -1,8 +1,6 @@
 -- `pen::put_u` meets its contract: k bits are written, which are v without its last n - k bits.
-use Prim.Native.Nat.{◌≤◌, ◌-◌, ◌/◌, ◌^◌}
 use native.Mathlib.Omega.{arith}
 use Rattle.tree.specs.Bits.{code}
-use Rattle.pen.specs.Writing.{Wrote}
 use Rattle.pen.proofs.Writing.{wrote_none, next_bit, next_room, all_bits_lem}
 use Rattle.pen.proofs.put_u.Goals as goal
 

@@ -1,8 +1,6 @@
 use Prim.Native.Nat.{◌≤◌, ◌-◌, ◌/◌, ◌^◌}
-use native.Mathlib.Omega.{arith}
 use Rattle.tree.specs.Bits.{code}
 use Rattle.pen.specs.Writing.{Wrote}
-use Rattle.pen.proofs.Writing.{wrote_none, next_bit, next_room, all_bits_lem}
 use Rattle.pen.proofs.put_u.Given as goal
 
 abbrev pub invariant-loop-k : goal.invariant-loop-k

@@ -1,5 +1,4 @@
 -- `pen::put_ue` meets its contract: the zeros of v's code, and v + 1 in one bit more.
-use borrow.Author.Rules.{rules}
 use Prim.Native.Nat.{◌+◌}
 use mathlib.Core.Bool.{false}
 use native.Mathlib.Omega.{arith}

@@ -1,5 +1,4 @@
 -- `pen::put_zeros` meets its contract: zero bits are the code of 0.
-use borrow.Author.Rules.{rules}
 use Rattle.tree.proofs.Bits.{code-zero}
 use Rattle.pen.proofs.put_zeros.Goals as goal
 

@@ -1,6 +1,5 @@
 -- `pen::to_unsigned` meets its contract: a negative number is 2 ^ n more.
 use native.Mathlib.Omega.{arith}
-use borrow.Author.Rules.{rules}
 use Rattle.bits.proofs.Casts.{wider}
 use Rattle.bits.proofs.Signed.{power_fits, unsigned_low, sum_fits, unsigned_fits, unsigned_is}
 use mir.Syntax.{w32, w64}

@@ -1,6 +1,6 @@
 -- `pen::zeros_of` meets its contract: after k halvings x is (v + 1) / 2^k, and it ends at 1.
-use Prim.Native.Nat.{◌≤◌, ◌+◌, ◌<◌, ◌/◌, ◌^◌}
-use mathlib.Core.Path.{◌≡◌, ap, sym, ◌∙◌}
+use Prim.Native.Nat.{◌+◌, ◌/◌}
+use mathlib.Core.Path.{ap, sym, ◌∙◌}
 use native.Mathlib.Omega.{arith}
 use native.Mathlib.Nat.{div-one}
 use Rattle.pen.proofs.Writing.{halved, halved_out}

@@ -1,8 +1,5 @@
 use Prim.Native.Nat.{◌≤◌, ◌+◌, ◌<◌, ◌/◌, ◌^◌}
-use mathlib.Core.Path.{◌≡◌, ap, sym, ◌∙◌}
-use native.Mathlib.Omega.{arith}
-use native.Mathlib.Nat.{div-one}
-use Rattle.pen.proofs.Writing.{halved, halved_out}
+use mathlib.Core.Path.{◌≡◌}
 use Rattle.pen.proofs.zeros_of.Given as goal
 
 abbrev pub invariant-loop-x : goal.invariant-loop-x

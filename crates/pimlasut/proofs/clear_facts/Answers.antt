@@ -6,7 +6,6 @@ use lib.ListN.{length}
 use Rattle.refusals.specs.Refusals.{unfit_output}
 use Rattle.reader.specs.Reading.{unplaced}
 use Rattle.pimlasut.specs.Boundary.{facts_length, facts_of}
-use borrow.Author.Rules.{rules}
 use Rattle.pimlasut.proofs.clear_facts.Goals as goal
 
 pub returns-then-facts-eq-FACTS : goal.returns-then-facts-eq-FACTS

@@ -1,11 +1,10 @@
 -- `pimlasut::give_reading` meets its contract.
 use mathlib.Core.Path.{◌≡◌, refl, sym, ◌∙◌}
-use lib.ListN.{length, length-map}
+use lib.ListN.{length}
 use Rattle.record.specs.Blocks.{most_blocks}
 use Rattle.flat.specs.Flat.{flat, flat_length}
 use Rattle.flat.proofs.Named.{length-flat}
 use Rattle.pimlasut.proofs.Laws.{kept, pasted_whole}
-use borrow.Author.Rules.{rules}
 use Rattle.pimlasut.proofs.give_reading.Goals as goal
 
 pub returns-then-reading-ne0 : goal.returns-then-reading-ne0

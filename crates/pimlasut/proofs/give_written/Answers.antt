@@ -1,7 +1,6 @@
 -- `pimlasut::give_written` meets its contract.
 use mathlib.Core.Path.{refl}
 use Rattle.pimlasut.proofs.Laws.{kept}
-use borrow.Author.Rules.{rules}
 use Rattle.pimlasut.proofs.give_written.Goals as goal
 
 pub returns-then-answer-ne0 : goal.returns-then-answer-ne0

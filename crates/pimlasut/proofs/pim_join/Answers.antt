@@ -17,7 +17,6 @@ use Rattle.track.proofs.Together.{rising_seen}
 use Rattle.tables.specs.Table.{flat_table, table_length, table_in}
 use Rattle.pimlasut.specs.Boundary.{if_sized, is_table, joining, joined_table}
 use Rattle.pimlasut.proofs.Laws.{wrong, right, kept, one_of_three_wrong, none_of_three_wrong, few_points, planned, planned_answer, planned_table}
-use borrow.Author.Rules.{rules}
 use Rattle.pimlasut.proofs.pim_join.Goals as goal
 
 pub returns-then-first-second : goal.returns-then-first-second

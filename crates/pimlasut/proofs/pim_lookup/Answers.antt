@@ -18,7 +18,6 @@ use Rattle.track.proofs.Looking.{few}
 use Rattle.tables.specs.Table.{flat_point, table_in, found_in}
 use Rattle.pimlasut.specs.Boundary.{after, is_point, is_table, looking}
 use Rattle.pimlasut.proofs.Laws.{wrong, right, one_wrong, none_wrong, sought, sought_result, sought_found, sought_within, sought_point}
-use borrow.Author.Rules.{rules}
 use Rattle.pimlasut.proofs.pim_lookup.Goals as goal
 
 pub returns-then-table-numbers : goal.returns-then-table-numbers

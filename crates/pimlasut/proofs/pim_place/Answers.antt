@@ -22,7 +22,6 @@ use Rattle.flat.proofs.Named.{length_in}
 use Rattle.tables.specs.Table.{flat_table}
 use Rattle.pimlasut.specs.Boundary.{is_record, is_table, point_named, placing}
 use Rattle.pimlasut.proofs.Laws.{wrong, right, one_wrong, none_wrong, whole_row}
-use borrow.Author.Rules.{rules}
 use Rattle.pimlasut.proofs.pim_place.Goals as goal
 
 pub returns-then-numbers-table : goal.returns-then-numbers-table

@@ -7,7 +7,6 @@ use Rattle.reader.specs.Reading.{read_bare}
 use Rattle.flat.specs.Flat.{flat_length}
 use Rattle.pimlasut.specs.Boundary.{is_record, facts_length, is_facts}
 use Rattle.pimlasut.proofs.Laws.{one_wrong, none_wrong, unfit_reading, given_reading}
-use borrow.Author.Rules.{rules}
 use Rattle.pimlasut.proofs.pim_read_bare.Goals as goal
 
 pub returns-then-numbers-facts : goal.returns-then-numbers-facts

@@ -11,7 +11,6 @@ use Rattle.flat.specs.Flat.{place_length, block_named}
 use Rattle.pimlasut.specs.Boundary.{if_sized, singles, Patterns}
 use Rattle.pimlasut.proofs.Laws.{wrong, right, kept, one_wrong, none_wrong, whole_row}
 use Rattle.pimlasut.proofs.Patterns.{conversion_is_numbers}
-use borrow.Author.Rules.{rules}
 use Rattle.pimlasut.proofs.pim_shader.Goals as goal
 
 pub returns-then-numbers-bits : goal.returns-then-numbers-bits

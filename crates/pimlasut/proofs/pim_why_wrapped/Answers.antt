@@ -5,7 +5,6 @@ use Rattle.wrapper.specs.Wrapper.{read_wrapped}
 use Rattle.reason.specs.Reason.{reason_text, longest}
 use Rattle.reason.proofs.Longest.{no_reason_is_longer}
 use Rattle.pimlasut.proofs.Laws.{few_reason, given-reason}
-use borrow.Author.Rules.{rules}
 use Rattle.pimlasut.proofs.pim_why_wrapped.Goals as goal
 
 pub give_written-requires : goal.give_written-requires

@@ -7,7 +7,6 @@ use Rattle.wrapper.specs.Wrapper.{write_wrapped}
 use Rattle.flat.specs.Flat.{flat_length, record_in}
 use Rattle.pimlasut.specs.Boundary.{is_record}
 use Rattle.pimlasut.proofs.Laws.{wrong, few_wrapped_bytes, few_written, given_written}
-use borrow.Author.Rules.{rules}
 use Rattle.pimlasut.proofs.pim_write_wrapped.Goals as goal
 
 pub returns-then-numbers-ne-NUMBERS : goal.returns-then-numbers-ne-NUMBERS

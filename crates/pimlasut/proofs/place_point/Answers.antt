@@ -8,7 +8,6 @@ use lib.Seq.{paste}
 use Rattle.track.specs.Track.{padded}
 use Rattle.tables.specs.Table.{flat_table, flat_point, point_length}
 use Rattle.tables.proofs.Laws.{placed_none, placed_one, length_point}
-use borrow.Author.Rules.{rules}
 use Rattle.pimlasut.proofs.place_point.Goals as goal
 
 pub returns-then-shown : goal.returns-then-shown

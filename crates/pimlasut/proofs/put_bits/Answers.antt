@@ -7,7 +7,6 @@ use lib.ListN.{length-set, drop_of_length-le}
 use lib.Seq.{sets-eq}
 use Rattle.shader.specs.Shader.{bits_in}
 use Rattle.pimlasut.proofs.Patterns.{is_number}
-use borrow.Author.Rules.{rules}
 use Rattle.pimlasut.proofs.put_bits.Goals as goal
 
 pub float_to_bits-bits : goal.float_to_bits-bits

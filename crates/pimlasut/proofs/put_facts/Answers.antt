@@ -6,7 +6,6 @@ use native.Mathlib.Omega.{arith}
 use lib.ListN.{length-set, drop_of_length-le}
 use lib.Seq.{sets-eq}
 use Rattle.element.specs.Element.{number_of}
-use borrow.Author.Rules.{rules}
 use Rattle.pimlasut.proofs.put_facts.Goals as goal
 
 pub bounds-facts-4 : goal.bounds-facts-4

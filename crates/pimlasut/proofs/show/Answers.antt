@@ -6,7 +6,6 @@ use Rattle.track.specs.declared.Point.{Point}
 use Rattle.tables.specs.Table.{flat_point, point_length, found_in}
 use Rattle.tables.proofs.Laws.{length_found}
 use Rattle.pimlasut.proofs.Laws.{kept, pasted_whole}
-use borrow.Author.Rules.{rules}
 use Rattle.pimlasut.proofs.show.Goals as goal
 
 pub returns-then-sought-ne0 : goal.returns-then-sought-ne0

@@ -1,6 +1,6 @@
 -- `reader::read_blocks` meets its contract. The invariant: the record holds the known blocks met, what is kept of them is theirs, the others
 -- are counted, and the answer from here is the answer from the start.
-use Prim.Native.Nat.{◌+◌, ◌-◌, ◌<◌, ◌≤◌}
+use Prim.Native.Nat.{◌+◌, ◌<◌, ◌≤◌}
 use mathlib.Core.Path.{◌≡◌, ◌∙◌, sym}
 use native.Mathlib.Omega.{arith}
 use lib.ListN.{drop, set}
@@ -13,7 +13,6 @@ use Rattle.syntax.specs.Data.{most_announced, announced}
 use Rattle.head.proofs.Laws.{opening_few}
 use Rattle.reader.specs.Reading.{summary, end_from}
 use Rattle.reader.proofs.Laws.{Reached, reached_none, reached_few, reached_counted, reached_all, reached_no, reached_past, reached_range, reached_repeated, reached_room, reached_more, blocks_from, told_on, end_told, end_there, no_blocks_lem, no_end, at_the_end}
-use borrow.Author.Rules.{rules}
 use Rattle.reader.proofs.read_blocks.Goals as goal
 
 pub loop-i-init : goal.loop-i-init

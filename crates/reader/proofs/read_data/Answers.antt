@@ -5,7 +5,6 @@ use Rattle.tree.specs.Syntax.{read}
 use Rattle.head.specs.Opening.{opening}
 use Rattle.head.proofs.Laws.{opening_ok, opening_no}
 use Rattle.reader.proofs.Laws.{told_on, no_head}
-use borrow.Author.Rules.{rules}
 use Rattle.reader.proofs.read_data.Goals as goal
 
 pub refused-requires : goal.refused-requires

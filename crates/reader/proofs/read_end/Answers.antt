@@ -10,7 +10,6 @@ use Rattle.tree.proofs.Bits.{length_rest}
 use Rattle.bits.specs.declared.Number.TheVariants.{Is}
 use Rattle.bits.specs.Answer.{nameless, span_of}
 use Rattle.reader.proofs.Laws.{end_refused, gap_took, end_remains, end_is}
-use borrow.Author.Rules.{rules}
 use Rattle.reader.proofs.read_end.Goals as goal
 
 pub overflow_add-end : goal.overflow_add-end

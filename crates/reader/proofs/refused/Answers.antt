@@ -2,7 +2,6 @@
 use mathlib.Core.Path.{◌∙◌}
 use Rattle.tree.specs.Bits.{bits_of}
 use Rattle.reader.proofs.Laws.{by_told}
-use borrow.Author.Rules.{rules}
 use Rattle.reader.proofs.refused.Goals as goal
 
 pub returns : goal.returns

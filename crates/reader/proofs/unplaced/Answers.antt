@@ -1,6 +1,5 @@
 -- `reader::unplaced` meets its contract.
 use mathlib.Core.Path.{refl, ◌∙◌}
-use borrow.Author.Rules.{rules}
 use Rattle.reader.proofs.unplaced.Goals as goal
 
 pub returns : goal.returns

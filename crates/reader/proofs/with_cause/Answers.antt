@@ -1,5 +1,4 @@
 -- `reader::with_cause` meets its contract: the empty record beside a refusal.
-use borrow.Author.Rules.{rules}
 use Rattle.reader.proofs.with_cause.Goals as goal
 
 pub returns : goal.returns

@@ -1,6 +1,5 @@
 -- `reason::put_allowed` meets its contract: the key, the range, the line's end.
 use mathlib.Core.List.{◌++◌}
-use borrow.Author.Rules.{rules}
 use Rattle.text.specs.Text.{ascii}
 use Rattle.text.proofs.Typing.{typed_then, room_left, room_first}
 use Rattle.reason.specs.Reason.{range_text}

@@ -1,6 +1,5 @@
 -- `reason::put_element` meets its contract: the key, the name, the line's end.
 use mathlib.Core.List.{◌++◌}
-use borrow.Author.Rules.{rules}
 use Rattle.text.specs.Text.{ascii}
 use Rattle.text.proofs.Typing.{typed_then, room_left, room_first}
 use Rattle.name.specs.Name.{name_of}

@@ -1,6 +1,5 @@
 -- `reason::put_placed` meets its contract: the offset, the element, the value and what is allowed.
 use mathlib.Core.List.{◌++◌}
-use borrow.Author.Rules.{rules}
 use Rattle.text.specs.Text.{ascii, decimal}
 use Rattle.text.proofs.Typing.{typed_then, room_left, room_first}
 use Rattle.name.specs.Name.{name_of}

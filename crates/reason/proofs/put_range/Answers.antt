@@ -3,7 +3,6 @@ use Prim.Native.Nat.{ℕ}
 use mathlib.Core.Path.{sym, subst}
 use mathlib.Core.List.{List, ◌++◌}
 use native.Mathlib.Omega.{arith}
-use borrow.Author.Rules.{rules}
 use Rattle.text.specs.Text.{ascii, decimal}
 use Rattle.text.specs.Typing.{RoomForText, Typed}
 use Rattle.text.proofs.Typing.{typed_then, room_left, room_first}

@@ -3,7 +3,6 @@ use Prim.Native.Nat.{ℕ}
 use mathlib.Core.Path.{sym, subst, ◌∙◌}
 use mathlib.Core.List.{List, []}
 use mathlib.Core.Bool.{cond}
-use borrow.Author.Rules.{rules}
 use lib.Dec.{eqb}
 use Rattle.text.specs.Text.{ascii, decimal}
 use Rattle.text.specs.Typing.{RoomForText, Typed}

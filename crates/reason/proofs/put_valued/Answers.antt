@@ -1,6 +1,5 @@
 -- `reason::put_valued` meets its contract: by the kind.
 use mathlib.Core.List.{◌++◌}
-use borrow.Author.Rules.{rules}
 use Rattle.text.specs.Text.{ascii, decimal}
 use Rattle.text.specs.Typing.{RoomForText}
 use Rattle.text.proofs.Typing.{typed_nothing, typed_then, room_left, room_first}

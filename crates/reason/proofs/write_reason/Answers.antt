@@ -3,9 +3,7 @@ use Prim.Native.Nat.{◌≤◌}
 use mathlib.Core.Path.{◌≡◌, refl, sym, ◌∙◌}
 use mathlib.Core.Bool.{true}
 use native.Mathlib.Omega.{arith}
-use borrow.Author.Rules.{rules}
 use lib.ListN.{length}
-use lib.Seq.{take-length}
 use Rattle.output.proofs.Output.{done, short}
 use Rattle.text.proofs.Typing.{typed_whole}
 use Rattle.reason.specs.Reason.{reason_text, longest}

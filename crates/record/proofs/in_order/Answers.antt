@@ -1,6 +1,5 @@
 -- `record::in_order` meets its contract.
 use mathlib.Core.Path.{sym, ap}
-use borrow.Author.Rules.{rules}
 use Rattle.record.specs.Blocks.{in_order}
 use Rattle.record.proofs.in_order.Goals as goal
 

@@ -2,7 +2,6 @@
 use Prim.Native.Nat.{◌≤◌}
 use mathlib.Core.Path.{◌∙◌}
 use native.Mathlib.Omega.{arith}
-use borrow.Author.Rules.{rules}
 use lib.ListN.{length}
 use Rattle.sei.proofs.Functions.{a_wrong_length, a_right_length, header_decides}
 use Rattle.sei.proofs.is_admitted.Goals as goal

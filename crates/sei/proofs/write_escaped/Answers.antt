@@ -5,7 +5,6 @@ use mathlib.Core.List.{◌++◌}
 use mathlib.Core.Bool.{true}
 use native.Mathlib.Omega.{arith}
 use borrow.Rule.Slice.PartMut.{same_len_mid}
-use borrow.Author.Rules.{rules}
 use lib.ListN.{length, length-drop, length-set}
 use Rattle.output.specs.Output.{written}
 use Rattle.output.proofs.Output.{done, short}

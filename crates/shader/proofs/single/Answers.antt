@@ -1,5 +1,4 @@
 -- `shader::single` meets its contract.
-use borrow.Author.Rules.{rules}
 use lib.IntN.{pos}
 use Rattle.singles.proofs.Codes.{quotient_bits}
 use Rattle.shader.proofs.single.Goals as goal

@@ -1,5 +1,4 @@
 -- `shader::single_signed` meets its contract.
-use borrow.Author.Rules.{rules}
 use mir.Syntax.{w16}
 use mir.ValLaws.{to_z-of_z}
 use Rattle.singles.proofs.Codes.{quotient_bits}

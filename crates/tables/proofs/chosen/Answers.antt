@@ -7,7 +7,6 @@ use Rattle.track.specs.Inner.{point_at}
 use Rattle.track.proofs.Filled.{chosen_first, chosen_second, chosen_neither}
 use Rattle.tables.specs.Table.{table_in}
 use Rattle.tables.proofs.Laws.{table_at}
-use borrow.Author.Rules.{rules}
 use Rattle.tables.proofs.chosen.Goals as goal
 
 pub returns-then-source-lt-SECOND : goal.returns-then-source-lt-SECOND

@@ -1,11 +1,11 @@
 -- `tables::clear` meets its contract: the first i numbers are zeros.
-use Prim.Native.Nat.{ℕ, ◌-◌, ◌≤◌}
+use Prim.Native.Nat.{ℕ}
 use mathlib.Core.Path.{◌≡◌, refl, sym, ap, ◌∙◌}
 use mathlib.Core.List.{List, ◌++◌}
 use native.Mathlib.Numerals.{add-one}
 use native.Mathlib.Omega.{arith}
 use lib.IntN.{ℤ, pos}
-use lib.ListN.{length, take, drop, set, length-set}
+use lib.ListN.{take, drop, set, length-set}
 use Rattle.flat.proofs.Rows.{copy_more}
 use Rattle.tables.specs.Table.{table_length, zero_row}
 use Rattle.tables.proofs.Laws.{length_zeros, zeros_at, all_zeros_lem}

@@ -1,13 +1,8 @@
-use Prim.Native.Nat.{ℕ, ◌-◌, ◌≤◌}
-use mathlib.Core.Path.{◌≡◌, refl, sym, ap, ◌∙◌}
-use mathlib.Core.List.{List, ◌++◌}
-use native.Mathlib.Numerals.{add-one}
-use native.Mathlib.Omega.{arith}
-use lib.IntN.{ℤ, pos}
-use lib.ListN.{length, take, drop, set, length-set}
-use Rattle.flat.proofs.Rows.{copy_more}
+use Prim.Native.Nat.{◌-◌, ◌≤◌}
+use mathlib.Core.Path.{◌≡◌}
+use mathlib.Core.List.{◌++◌}
+use lib.ListN.{length, take, drop}
 use Rattle.tables.specs.Table.{table_length, zero_row}
-use Rattle.tables.proofs.Laws.{length_zeros, zeros_at, all_zeros_lem}
 use Rattle.tables.proofs.clear.Given as goal
 
 abbrev pub invariant-loop-at : goal.invariant-loop-at

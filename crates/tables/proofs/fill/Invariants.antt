@@ -1,18 +1,9 @@
-use Prim.Native.Nat.{ℕ, ◌+◌, ◌-◌, ◌*◌, ◌≤◌, ◌<◌}
-use mathlib.Core.Path.{◌≡◌, refl, sym, ap, ◌∙◌}
-use mathlib.Core.List.{List}
-use native.Mathlib.Omega.{arith}
-use borrow.Author.Rules.{rules}
-use lib.Dec.{eqb}
-use lib.IntN.{ℤ}
-use lib.ListN.{length, take, drop, get_or, length-map}
-use lib.Seq.{paste, take_all}
-use Rattle.plan.specs.Limit.{most_points}
-use Rattle.track.specs.declared.Point.{Point}
-use Rattle.track.proofs.Filled.{bound_le}
-use Rattle.flat.proofs.Rows.{paste_more}
-use Rattle.tables.specs.Table.{flat_point, point_length}
-use Rattle.tables.proofs.Laws.{chosen, length_chosen, laid_out, laid_at, laid_length, pasted_by}
+use Prim.Native.Nat.{◌-◌, ◌*◌, ◌≤◌}
+use mathlib.Core.Path.{◌≡◌}
+use lib.ListN.{length}
+use lib.Seq.{paste}
+use Rattle.tables.specs.Table.{point_length}
+use Rattle.tables.proofs.Laws.{laid_out}
 use Rattle.tables.proofs.fill.Given as goal
 
 abbrev pub invariant-loop-k : goal.invariant-loop-k

@@ -1,7 +1,6 @@
 -- `tables::found_point` meets its contract.
 use mathlib.Core.Path.{sym, ap, ◌∙◌}
 use mathlib.Core.Bool.{Bool, cond}
-use borrow.Author.Rules.{rules}
 use Rattle.track.specs.Track.{cleared}
 use Rattle.tables.specs.Table.{point_in}
 use Rattle.tables.proofs.found_point.Goals as goal

@@ -11,7 +11,6 @@ use mir.ValLaws.{to_z-of_z}
 use Rattle.flat.specs.Flat.{flat, flat_length}
 use Rattle.flat.proofs.Numbers.{wide}
 use Rattle.tables.proofs.Laws.{point_pasted}
-use borrow.Author.Rules.{rules}
 use Rattle.tables.proofs.put_point.Goals as goal
 
 pub bounds-row-at-2 : goal.bounds-row-at-2

@@ -1,9 +1,8 @@
 -- `tables::scan` meets its contract: what has been seen after i points.
-use Prim.Native.Nat.{ℕ, ◌-◌, ◌≤◌, ◌<◌}
+use Prim.Native.Nat.{ℕ, ◌<◌}
 use mathlib.Core.Path.{◌≡◌, refl, sym, ap, ◌∙◌}
 use native.Mathlib.Numerals.{add-one}
 use native.Mathlib.Omega.{arith}
-use borrow.Author.Rules.{rules}
 use Rattle.plan.specs.declared.Scanned.{Scanned}
 use Rattle.plan.specs.Limit.{most_points}
 use Rattle.plan.specs.Scanning.{extent_of, begun}

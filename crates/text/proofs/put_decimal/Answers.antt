@@ -1,11 +1,10 @@
 -- `text::put_decimal` meets its contract: the digits from place i on are stored, and those before it are the digits of the rest.
-use Prim.Native.Nat.{ℕ, suc, ◌+◌, ◌-◌, ◌%◌, ◌≤◌}
+use Prim.Native.Nat.{ℕ, suc, ◌+◌, ◌-◌, ◌%◌}
 use mathlib.Core.Path.{◌≡◌, ap, ◌∙◌}
 use mathlib.Core.List.{List}
 use native.Mathlib.Omega.{arith}
-use borrow.Author.Rules.{rules}
 use lib.ListN.{length, take, drop, set}
-use lib.Seq.{take-length, drop-length, sets, length-sets}
+use lib.Seq.{take-length, drop-length, length-sets}
 use Rattle.text.specs.Text.{size, digits, decimal}
 use Rattle.text.proofs.Typing.{typed_sets, set_before}
 use Rattle.text.proofs.Decimals.{length-decimal, earlier_digits, next_digit}

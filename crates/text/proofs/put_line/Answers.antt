@@ -1,5 +1,4 @@
 -- `text::put_line` meets its contract: the key, the number, the line's end.
-use borrow.Author.Rules.{rules}
 use mathlib.Core.List.{◌++◌}
 use Rattle.text.specs.Text.{ascii, decimal}
 use Rattle.text.proofs.Typing.{typed_then, room_left, room_first}

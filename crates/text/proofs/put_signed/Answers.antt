@@ -1,7 +1,6 @@
 -- `text::put_signed` meets its contract: the key, the sign, then the digits and the line's end.
-use borrow.Author.Rules.{rules}
 use Prim.Native.Nat.{ℕ}
-use mathlib.Core.Path.{◌≡◌, sym, subst}
+use mathlib.Core.Path.{sym, subst}
 use mathlib.Core.List.{List, ◌++◌}
 use lib.IntN.{nat_abs}
 use mir.Syntax.{w16}

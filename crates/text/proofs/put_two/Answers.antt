@@ -1,5 +1,4 @@
 -- `text::put_two` meets its contract.
-use borrow.Author.Rules.{rules}
 use lib.IntN.{pos}
 use Rattle.text.specs.Typing.{entry}
 use Rattle.text.proofs.Typing.{typed_then, room_left, room_first}

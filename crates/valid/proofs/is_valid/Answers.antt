@@ -1,13 +1,12 @@
 -- `valid::is_valid` meets its contract. The invariants: the walk from block j on says what the walk from the first says; behind the blocks, the places from k on are empty exactly if those from n on are.
-use Prim.Native.Nat.{ℕ, ◌-◌, ◌<◌, ◌≤◌}
+use Prim.Native.Nat.{ℕ, ◌<◌, ◌≤◌}
 use mathlib.Core.Path.{◌≡◌, refl, sym, ◌∙◌}
 use mathlib.Core.List.{[]}
 use mathlib.Core.Bool.{Bool, true, false, not, ◌&&◌}
 use native.Mathlib.Omega.{arith}
-use borrow.Author.Rules.{rules}
 use borrow.Author.Tests.{eq-eqb, ne_eqb, lt-leb}
 use lib.Dec.{eqb}
-use lib.ListN.{length, take, drop, length-map, drop_of_length-le}
+use lib.ListN.{length, take, length-map, drop_of_length-le}
 use lib.Seq.{slice_empty}
 use Rattle.record.specs.declared.Block.{Block}
 use Rattle.record.specs.Level.{level_of}

@@ -1,20 +1,9 @@
-use Prim.Native.Nat.{ℕ, ◌-◌, ◌<◌, ◌≤◌}
-use mathlib.Core.Path.{◌≡◌, refl, sym, ◌∙◌}
+use Prim.Native.Nat.{◌-◌, ◌≤◌}
+use mathlib.Core.Path.{◌≡◌}
 use mathlib.Core.List.{[]}
-use mathlib.Core.Bool.{Bool, true, false, not, ◌&&◌}
-use native.Mathlib.Omega.{arith}
-use borrow.Author.Rules.{rules}
-use borrow.Author.Tests.{eq-eqb, ne_eqb, lt-leb}
-use lib.Dec.{eqb}
-use lib.ListN.{length, take, drop, length-map, drop_of_length-le}
-use lib.Seq.{slice_empty}
-use Rattle.record.specs.declared.Block.{Block}
-use Rattle.record.specs.Level.{level_of}
-use Rattle.record.specs.Blocks.{most_blocks, block_in, all_blocks, blocks, beyond, in_range, in_order}
-use Rattle.record.proofs.Laws.{block_at, drop_more}
-use Rattle.valid.specs.Valid.{every, is_nothing, valid_block, may_follow, well_formed}
-use Rattle.valid.proofs.Clauses.{valid_is_walk, walk_fails, rest_fails, flag_decides}
-use Rattle.valid.proofs.Laws.{walk_more, first_follows}
+use lib.ListN.{take, drop}
+use Rattle.record.specs.Blocks.{most_blocks, all_blocks}
+use Rattle.valid.specs.Valid.{every, is_nothing, well_formed}
 use Rattle.valid.proofs.is_valid.Given as goal
 
 abbrev pub invariant-loop-j : goal.invariant-loop-j

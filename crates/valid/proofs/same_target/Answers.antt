@@ -1,7 +1,6 @@
 -- `valid::same_target` meets its contract.
 use mathlib.Core.List.{[], ◌∷◌}
 use mathlib.Core.Bool.{or-false, not-not}
-use borrow.Author.Rules.{rules}
 use Rattle.record.proofs.Laws.{eqb_turned}
 use Rattle.valid.specs.Valid.{targets, among}
 use Rattle.valid.proofs.Laws.{new_target_none}

@@ -1,5 +1,4 @@
 -- `window::bytes_and_next` meets its contract: the last four bytes behind those before them.
-use borrow.Author.Rules.{rules}
 use Prim.Native.Nat.{ℕ, ◌+◌, ◌-◌, ◌<◌}
 use mathlib.Core.Path.{◌≡◌}
 use native.Mathlib.Omega.{arith}

@@ -1,5 +1,4 @@
 -- `window::few_and_next` meets its contract: one byte more behind a few, or none.
-use borrow.Author.Rules.{rules}
 use native.Mathlib.Omega.{arith}
 use native.Mathlib.Nat.{add-zero}
 use Rattle.window.proofs.Laws.{bytes_joined}

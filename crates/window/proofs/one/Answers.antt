@@ -1,5 +1,4 @@
 -- `window::one` meets its contract: the number of a byte is the byte.
-use borrow.Author.Rules.{rules}
 use native.Mathlib.Omega.{arith}
 use Rattle.window.proofs.Laws.{number_one}
 use Rattle.window.proofs.one.Goals as goal

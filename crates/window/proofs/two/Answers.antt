@@ -1,5 +1,4 @@
 -- `window::two` meets its contract: two bytes one behind another.
-use borrow.Author.Rules.{rules}
 use native.Mathlib.Omega.{arith}
 use Prim.Native.Nat.{ℕ, ◌+◌, ◌<◌}
 use lib.ListN.{get_or}

@@ -1,5 +1,4 @@
 -- `window::word` meets its contract: the law, at the number of bytes that the bits touch.
-use borrow.Author.Rules.{rules}
 use Prim.Native.Nat.{ℕ, ◌<◌}
 use mathlib.Core.Path.{refl}
 use native.Mathlib.Omega.{arith}

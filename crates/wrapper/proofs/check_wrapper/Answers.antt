@@ -1,15 +1,9 @@
 -- `wrapper::check_wrapper` meets its contract: the answer from byte i on is the answer from the start.
-use Prim.Native.Nat.{◌≤◌, ◌-◌}
 use mathlib.Core.Path.{◌≡◌, refl, sym, ◌∙◌}
 use native.Mathlib.Omega.{arith}
-use borrow.Author.Rules.{rules}
-use Rattle.tree.specs.Bits.{bits_of}
 use Rattle.tree.specs.Syntax.{read}
 use Rattle.tree.specs.Wrapper.{wrapper_table}
-use Rattle.record.specs.Name.{«wrapper»}
-use Rattle.syntax.specs.Wrapper.{wrapper_bytes}
-use Rattle.wrapper.specs.Wrapper.{wrapper_of}
-use Rattle.wrapper.proofs.Laws.{from_byte, missing, differs, agrees}
+use Rattle.wrapper.proofs.Laws.{missing, differs, agrees}
 use Rattle.wrapper.proofs.check_wrapper.Goals as goal
 
 pub loop-i-init : goal.loop-i-init

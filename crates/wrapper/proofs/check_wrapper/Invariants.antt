@@ -1,14 +1,12 @@
 use Prim.Native.Nat.{◌≤◌, ◌-◌}
-use mathlib.Core.Path.{◌≡◌, refl, sym, ◌∙◌}
-use native.Mathlib.Omega.{arith}
-use borrow.Author.Rules.{rules}
+use mathlib.Core.Path.{◌≡◌}
 use Rattle.tree.specs.Bits.{bits_of}
 use Rattle.tree.specs.Syntax.{read}
 use Rattle.tree.specs.Wrapper.{wrapper_table}
 use Rattle.record.specs.Name.{«wrapper»}
 use Rattle.syntax.specs.Wrapper.{wrapper_bytes}
 use Rattle.wrapper.specs.Wrapper.{wrapper_of}
-use Rattle.wrapper.proofs.Laws.{from_byte, missing, differs, agrees}
+use Rattle.wrapper.proofs.Laws.{from_byte}
 use Rattle.wrapper.proofs.check_wrapper.Given as goal
 
 abbrev pub invariant-loop-i : goal.invariant-loop-i

@@ -1,5 +1,4 @@
 -- `wrapper::has_wrapper` meets its contract.
-use borrow.Author.Rules.{rules}
 use Rattle.tree.proofs.Lists.{all_bytes}
 use Rattle.wrapper.proofs.Laws.{begins_there, begins_not}
 use Rattle.wrapper.proofs.has_wrapper.Goals as goal

@@ -2,7 +2,6 @@
 use native.Mathlib.Omega.{arith}
 use lib.ListN.{length-set}
 use Rattle.wrapper.proofs.Laws.{stored}
-use borrow.Author.Rules.{rules}
 use Rattle.wrapper.proofs.put_wrapper.Goals as goal
 
 pub bounds-out-1 : goal.bounds-out-1

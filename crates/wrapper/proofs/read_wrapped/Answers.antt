@@ -1,5 +1,4 @@
 -- `wrapper::read_wrapped` meets its contract: the wrapper is judged, and the data handed on from the ninth byte.
-use borrow.Author.Rules.{rules}
 use Prim.Native.Nat.{ℕ, ◌-◌, ◌≤◌}
 use mathlib.Core.Path.{◌≡◌, ap, ◌∙◌}
 use mathlib.Core.List.{List}

@@ -1,5 +1,4 @@
 -- `wrapper::refused` meets its contract.
-use borrow.Author.Rules.{rules}
 use Rattle.wrapper.proofs.refused.Goals as goal
 
 pub returns : goal.returns

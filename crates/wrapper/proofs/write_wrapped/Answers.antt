@@ -1,11 +1,10 @@
 -- `wrapper::write_wrapped` meets its contract: the data is written behind the wrapper's place or refused, and then the wrapper is written.
 use Prim.Native.Nat.{ℕ, ◌≤◌}
-use mathlib.Core.Path.{◌≡◌, sym, ap, subst, ◌∙◌}
+use mathlib.Core.Path.{sym, ap, subst, ◌∙◌}
 use mathlib.Core.List.{List, ◌++◌}
 use native.Mathlib.Omega.{arith}
 use lib.ListN.{length, take, drop, take-append-drop, length-drop}
 use lib.Seq.{drop_at, length-take-le}
-use borrow.Author.Rules.{rules}
 use Rattle.output.specs.declared.Written.{Written}
 use Rattle.output.specs.Output.{writtenAs, bufferAs}
 use Rattle.output.proofs.Output.{inside}

@@ -1,11 +1,10 @@
 -- `writer::blocks_bits` meets its contract: the sum so far is that of the first j blocks.
-use Prim.Native.Nat.{◌-◌, ◌*◌, ◌<◌, ◌≤◌}
+use Prim.Native.Nat.{◌<◌}
 use mathlib.Core.Path.{◌≡◌, refl, sym, ◌∙◌}
 use native.Mathlib.Omega.{arith}
-use borrow.Author.Rules.{rules}
-use lib.ListN.{length, take, length-map}
+use lib.ListN.{length}
 use Rattle.tree.specs.Meaning.{sum_of_widths}
-use Rattle.record.specs.Blocks.{most_blocks, all_blocks}
+use Rattle.record.specs.Blocks.{most_blocks}
 use Rattle.record.proofs.Laws.{block_at}
 use Rattle.syntax.specs.Element.{block_elements, blocks_elements}
 use Rattle.writer.proofs.Room.{block-width, widths_more}

@@ -1,13 +1,9 @@
-use Prim.Native.Nat.{◌-◌, ◌*◌, ◌<◌, ◌≤◌}
-use mathlib.Core.Path.{◌≡◌, refl, sym, ◌∙◌}
-use native.Mathlib.Omega.{arith}
-use borrow.Author.Rules.{rules}
-use lib.ListN.{length, take, length-map}
+use Prim.Native.Nat.{◌-◌, ◌*◌, ◌≤◌}
+use mathlib.Core.Path.{◌≡◌}
+use lib.ListN.{take}
 use Rattle.tree.specs.Meaning.{sum_of_widths}
-use Rattle.record.specs.Blocks.{most_blocks, all_blocks}
-use Rattle.record.proofs.Laws.{block_at}
-use Rattle.syntax.specs.Element.{block_elements, blocks_elements}
-use Rattle.writer.proofs.Room.{block-width, widths_more}
+use Rattle.record.specs.Blocks.{all_blocks}
+use Rattle.syntax.specs.Element.{blocks_elements}
 use Rattle.writer.proofs.blocks_bits.Given as goal
 
 abbrev pub invariant-loop-j : goal.invariant-loop-j

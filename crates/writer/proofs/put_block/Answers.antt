@@ -1,6 +1,4 @@
 -- `writer::put_block` meets its contract: the length, the level, the fields and the zero bits, one behind the other.
-use borrow.Author.Rules.{rules}
-use Prim.Native.Nat.{◌+◌}
 use mathlib.Core.Path.{◌≡◌, ◌∙◌, ap}
 use mathlib.Core.List.{◌++◌}
 use native.Mathlib.Omega.{arith}

@@ -1,11 +1,10 @@
 -- `writer::put_blocks` meets its contract: the first j blocks are written.
-use Prim.Native.Nat.{◌-◌, ◌+◌, ◌<◌, ◌≤◌}
-use mathlib.Core.Path.{◌≡◌, sym, ◌∙◌}
+use Prim.Native.Nat.{◌+◌, ◌<◌, ◌≤◌}
+use mathlib.Core.Path.{◌≡◌}
 use native.Mathlib.Omega.{arith}
-use lib.ListN.{length, take, length-map}
+use lib.ListN.{length, take}
 use Rattle.tree.specs.Meaning.{all_bits, sum_of_widths}
 use Rattle.tree.proofs.Meaning.{length-all, all_bits-append}
-use Rattle.pen.specs.Writing.{Wrote}
 use Rattle.pen.proofs.Writing.{wrote_none, wrote_then, room_left}
 use Rattle.record.specs.Blocks.{most_blocks, all_blocks}
 use Rattle.record.proofs.Laws.{block_at}

@@ -1,5 +1,4 @@
 -- `writer::put_head` meets its contract.
-use borrow.Author.Rules.{rules}
 use native.Mathlib.Omega.{arith}
 use lib.ListN.{length, length-append}
 use Rattle.tree.specs.Codes.{ue_code}

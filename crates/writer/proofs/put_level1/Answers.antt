@@ -1,5 +1,4 @@
 -- `writer::put_level1` meets its contract.
-use borrow.Author.Rules.{rules}
 use native.Mathlib.Omega.{arith}
 use Rattle.pen.proofs.Writing.{wrote_then, room_left}
 use Rattle.writer.proofs.Parts.{length_pair}

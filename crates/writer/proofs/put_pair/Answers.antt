@@ -1,5 +1,4 @@
 -- `writer::put_pair` meets its contract.
-use borrow.Author.Rules.{rules}
 use native.Mathlib.Omega.{arith}
 use Rattle.tree.proofs.Bits.{length-code}
 use Rattle.pen.proofs.Writing.{wrote_then, room_left}

@@ -1,6 +1,4 @@
 -- `writer::put_payload` meets its contract: what stands before the blocks, the blocks, and zero bits to the byte.
-use borrow.Author.Rules.{rules}
-use Prim.Native.Nat.{◌+◌}
 use mathlib.Core.List.{◌++◌}
 use native.Mathlib.Omega.{arith}
 use Rattle.tree.specs.Meaning.{all_bits, sum_of_widths}

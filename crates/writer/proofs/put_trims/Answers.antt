@@ -1,6 +1,4 @@
 -- `writer::put_trims` meets its contract.
-use borrow.Author.Rules.{rules}
-use Prim.Native.Nat.{◌+◌}
 use native.Mathlib.Omega.{arith}
 use mathlib.Core.List.{◌++◌}
 use Rattle.tree.specs.Bits.{code}

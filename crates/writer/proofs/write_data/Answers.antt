@@ -1,5 +1,4 @@
 -- `writer::write_data` meets its contract: the record is judged, then the room, and only then a byte is written.
-use borrow.Author.Rules.{rules}
 use Prim.Native.Nat.{◌%◌, ◌≤◌}
 use mathlib.Core.Path.{◌≡◌, sym, ◌∙◌}
 use mathlib.Core.Bool.{true}
