@@ -77,10 +77,10 @@ one_longer false b s = omega arith
 -- removing makes no bytes
 pub removed_shorter : (zeros : ℕ) (s : List ℕ) → length (removed_behind zeros s) ≤ length s
 unfolding removed_behind
-removed_shorter zeros [] = omega arith
-removed_shorter zeros (b ∷ s) =
-    let rest = removed_behind (zeros_behind zeros b) s in
-    omega (arith, one_longer (is_emulation zeros b) b rest, removed_shorter (zeros_behind zeros b) s)
+removed_shorter n [] = omega arith
+removed_shorter n (b ∷ s) =
+    let rest = removed_behind (zeros_behind n b) s in
+    omega (arith, one_longer (is_emulation n b) b rest, removed_shorter (zeros_behind n b) s)
 
 -- the zero bytes in a row are one more at most
 pub one_more_zero : (zeros b : ℕ) → zeros_behind zeros b ≤ zeros + 1

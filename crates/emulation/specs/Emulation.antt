@@ -1,5 +1,5 @@
 -- Emulation prevention in a NAL unit (H.265, 7.3.1.1 and 7.4.2): no bytes within it may look like a start code.
-use Rattle.std.specs.Prelude.{ℕ, zero, suc, ◌<◌, ◌≡◌, ◌⊎◌, List, [], ◌∷◌, ◌++◌, Bool, true, false, cond, ◌&&◌, ◌||◌, eqb, leb, ltb}
+use Rattle.std.specs.Prelude.{ℕ, suc, ◌<◌, ◌≡◌, ◌⊎◌, List, [], ◌∷◌, ◌++◌, Bool, true, false, cond, ◌&&◌, ◌||◌, eqb, leb, ltb}
 
 abbrev pub emulation_prevention_three_byte : ℕ
 emulation_prevention_three_byte = 3
@@ -21,8 +21,8 @@ left_out true b s = s
 left_out false b s = b ∷ s
 
 unfoldable pub removed_behind : ℕ → List ℕ → List ℕ
-removed_behind zeros [] = []
-removed_behind zeros (b ∷ s) = left_out (is_emulation zeros b) b (removed_behind (zeros_behind zeros b) s)
+removed_behind n [] = []
+removed_behind n (b ∷ s) = left_out (is_emulation n b) b (removed_behind (zeros_behind n b) s)
 
 abbrev pub removed : List ℕ → List ℕ
 removed s = removed_behind 0 s
@@ -36,8 +36,8 @@ put_before true s = emulation_prevention_three_byte ∷ s
 put_before false s = s
 
 unfoldable pub escaped_behind : ℕ → List ℕ → List ℕ
-escaped_behind zeros [] = []
-escaped_behind zeros (b ∷ s) = put_before (needs_emulation zeros b) (b ∷ escaped_behind (zeros_behind (cond (needs_emulation zeros b) 0 zeros) b) s)
+escaped_behind n [] = []
+escaped_behind n (b ∷ s) = put_before (needs_emulation n b) (b ∷ escaped_behind (zeros_behind (cond (needs_emulation n b) 0 n) b) s)
 
 -- the one escaping of bytes
 abbrev pub escaped : List ℕ → List ℕ
