@@ -164,7 +164,8 @@ pub fn read_ue(s: &[u8], at: usize, most: usize) -> Number
             next,
         } => {
             let zeros = zeros_before(lead, have);
-            if most < zeros {
+            let too_many = most < zeros;
+            if too_many {
                 refuse(refusals::TOO_MANY_ZEROS, at)
             } else {
                 read_code(s, at, lead, have, next, zeros)

@@ -133,7 +133,8 @@ fn read_body(s: &[u8], start: usize, at: usize, size: u32, level: u8) -> Part
     let known = record::is_known(level);
     let bytes = record::bytes_of(level) as u32;
     if known {
-        if size == bytes {
+        let fits = size == bytes;
+        if fits {
             read_content(s, start, at, level)
         } else {
             refuse(refusals::WRONG_LENGTH, Element::ExtBlockLength, start)

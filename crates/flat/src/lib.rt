@@ -32,7 +32,8 @@ pub fn unsigned(number: i32) -> u16
     ensures { result ≡ unsigned_in 16 number }
 {
     if 0 <= number {
-        if number <= 65535 {
+        let fits = number <= 65535;
+        if fits {
             return number as u16;
         }
     }

@@ -4,7 +4,7 @@ use Prim.Native.String.{String}
 use Rattle.tree.specs.Bits.{bit}
 use Rattle.tree.specs.Syntax.{Field}
 use Rattle.output.specs.declared.Written.{Written}
-use Rattle.output.specs.Output.{writtenAs, bufferAs}
+use Rattle.output.specs.Output.{written_as, buffer_as}
 use Rattle.text.specs.Text.{Line, line, text}
 use Rattle.record.specs.declared.Block.{Block}
 use Rattle.record.specs.declared.Record.{Record}
@@ -78,7 +78,7 @@ listable q = not (eqb q.result 0) || valid q.«record»
 
 -- write_listing: the answer, and the buffer afterwards
 abbrev pub write_listing : Reading → List ℕ → Written
-write_listing q out = writtenAs (listing q) (listable q) out
+write_listing q out = written_as (listing q) (listable q) out
 
 abbrev pub listing_buffer : Reading → List ℕ → List ℕ
-listing_buffer q out = bufferAs (listing q) (listable q) out
+listing_buffer q out = buffer_as (listing q) (listable q) out

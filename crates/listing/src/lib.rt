@@ -168,7 +168,8 @@ fn put_listing(out: &mut [u8], q: Reading) -> usize
     requires { RoomForText out.old 0 (listing q) × (listable q ≡ true) }
     ensures { Typed out.old 0 (listing q) out.new result }
 {
-    if q.result == 0 {
+    let accepted = q.result == 0;
+    if accepted {
         put_accepted(out, q.record, q.bits)
     } else {
         text::put_line(out, 0, b"result=", q.result as u64)

@@ -11,7 +11,7 @@ use lib.ListN.{length, take, drop, set, get_or, length-append, length-drop, take
 use lib.Seq.{drop-append-le, drop-cons, drop-drop, length-take-le, set_at}
 use Rattle.refusals.specs.Refusals.{unfit_output, not_valid}
 use Rattle.output.specs.declared.Written.{Written}
-use Rattle.output.specs.Output.{written, fits, writtenAs, bufferAs}
+use Rattle.output.specs.Output.{written, fits, written_as, buffer_as}
 use Rattle.output.proofs.Output.{done, short, bad}
 use Rattle.record.specs.declared.Record.{Record}
 use Rattle.record.specs.Blocks.{most_blocks}
@@ -92,19 +92,19 @@ module _ (all bytes : List ℕ) (good : Bool) (is : good ≡ true → all ≡ rb
   length-all v = omega (arith, ap (length {A = ℕ}) (is v), length-append bytes trailing)
 
   -- without room for these three
-  pub no_room : (out : List ℕ) → length out < 3 → (without_room good ≡ writtenAs all good out) × (out ≡ bufferAs all good out)
+  pub no_room : (out : List ℕ) → length out < 3 → (without_room good ≡ written_as all good out) × (out ≡ buffer_as all good out)
   no_room out h = go good refl
     where
-      go : (t : Bool) → good ≡ t → (without_room good ≡ writtenAs all good out) × (out ≡ bufferAs all good out)
+      go : (t : Bool) → good ≡ t → (without_room good ≡ written_as all good out) × (out ≡ buffer_as all good out)
       go true v = let x = short all good out v (omega (arith, length-all v)) in (ap without_room v ∙ x.0, x.1)
       go false v = let x = bad all good out v in (ap without_room v ∙ x.0, x.1)
 
-  module _ (out : List ℕ) (h : 3 ≤ length out) (w : Written) (e : w ≡ writtenAs bytes good (part_of out)) where
+  module _ (out : List ℕ) (h : 3 ≤ length out) (w : Written) (e : w ≡ written_as bytes good (part_of out)) where
     -- where the payload is refused, so is the message, and no byte changes
-    pub refused_within : (w.result ≡ 0 → ⊥) → (w ≡ writtenAs all good out) × (bufferAs bytes good (part_of out) ≡ part_of out) × (out ≡ bufferAs all good out)
+    pub refused_within : (w.result ≡ 0 → ⊥) → (w ≡ written_as all good out) × (buffer_as bytes good (part_of out) ≡ part_of out) × (out ≡ buffer_as all good out)
     refused_within n = go good refl (fits bytes (part_of out)) refl
       where
-        go : (t : Bool) → good ≡ t → (u : Bool) → fits bytes (part_of out) ≡ u → (w ≡ writtenAs all good out) × (bufferAs bytes good (part_of out) ≡ part_of out) × (out ≡ bufferAs all good out)
+        go : (t : Bool) → good ≡ t → (u : Bool) → fits bytes (part_of out) ≡ u → (w ≡ written_as all good out) × (buffer_as bytes good (part_of out) ≡ part_of out) × (out ≡ buffer_as all good out)
         go true v true f =
             let x = done bytes good (part_of out) v (leb-true (length bytes) (length (part_of out)) f) in
             absurd (n (ap (λ (a : Written). a.result) (e ∙ sym x.0)))
@@ -138,9 +138,9 @@ module _ (all bytes : List ℕ) (good : Bool) (is : good ≡ true → all ≡ rb
               absurd (omega (arith, b, n))
 
       -- and the stores make the message of it
-      pub message_stored : (p : List ℕ) → p ≡ bufferAs bytes good (part_of out)
-          → (written 0 (w.bytes + 3) ≡ writtenAs all good out)
-          × (set (set (set (put_mid 2 (length out - 1 - 2) out p) 0 4) 1 w.bytes) (w.bytes + 2) 0x80 ≡ bufferAs all good out)
+      pub message_stored : (p : List ℕ) → p ≡ buffer_as bytes good (part_of out)
+          → (written 0 (w.bytes + 3) ≡ written_as all good out)
+          × (set (set (set (put_mid 2 (length out - 1 - 2) out p) 0 4) 1 w.bytes) (w.bytes + 2) 0x80 ≡ buffer_as all good out)
       message_stored p q =
           let x = written_within in
           let v = x.0 in

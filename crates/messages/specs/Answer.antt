@@ -3,7 +3,7 @@ use Rattle.std.specs.Prelude.{ℕ, ◌+◌, ◌≤◌, cond, List, [], ◌∷◌
 use Rattle.std.proofs.Math.Option.{Option, none, some}
 use Rattle.refusals.specs.Refusals.{broken_messages, none_of_ours}
 use Rattle.output.specs.declared.Written.{Written}
-use Rattle.output.specs.Output.{writtenAs, bufferAs}
+use Rattle.output.specs.Output.{written_as, buffer_as}
 use Rattle.record.specs.declared.Record.{Record}
 use Rattle.valid.specs.Valid.{valid}
 use Rattle.reader.specs.declared.Reading.{Reading}
@@ -90,7 +90,7 @@ abbrev pub message_rbsp : Record → List ℕ
 message_rbsp r = sei_rbsp (our_message r ∷ [])
 
 abbrev pub write_message : Record → List ℕ → Written
-write_message r out = writtenAs (message_rbsp r) (valid r) out
+write_message r out = written_as (message_rbsp r) (valid r) out
 
 abbrev pub message_buffer : Record → List ℕ → List ℕ
-message_buffer r out = bufferAs (message_rbsp r) (valid r) out
+message_buffer r out = buffer_as (message_rbsp r) (valid r) out

@@ -126,7 +126,8 @@ fn note_message(s: &[u8], first: First, kind: usize, start: usize, size: usize) 
         return first;
     }
     // A unit can hold thousands of messages that are shorter than the wrapper: these are not even looked into.
-    if size < wrapper::WRAPPER_BYTES {
+    let short = size < wrapper::WRAPPER_BYTES;
+    if short {
         return first;
     }
     let end = start + size;

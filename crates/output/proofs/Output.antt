@@ -7,20 +7,20 @@ use native.Mathlib.Omega.{arith}
 use borrow.Author.Tests.{le-leb, lt-leb, leb-true}
 use lib.ListN.{length, drop}
 use Rattle.refusals.specs.Refusals.{unfit_output, not_valid}
-use Rattle.output.specs.Output.{written, fits, writtenAs, bufferAs}
+use Rattle.output.specs.Output.{written, fits, written_as, buffer_as}
 
 module _ (bytes : List ℕ) (good : Bool) (out : List ℕ) where
-  pub done : good ≡ true → length bytes ≤ length out → (written 0 (length bytes) ≡ writtenAs bytes good out) × (bytes ++ drop (length bytes) out ≡ bufferAs bytes good out)
+  pub done : good ≡ true → length bytes ≤ length out → (written 0 (length bytes) ≡ written_as bytes good out) × (bytes ++ drop (length bytes) out ≡ buffer_as bytes good out)
   done v h = rw (v, le-leb (length bytes) (length out) h) (refl, refl)
 
-  pub short : good ≡ true → length out < length bytes → (written unfit_output 0 ≡ writtenAs bytes good out) × (out ≡ bufferAs bytes good out)
+  pub short : good ≡ true → length out < length bytes → (written unfit_output 0 ≡ written_as bytes good out) × (out ≡ buffer_as bytes good out)
   short v h = rw (v, lt-leb (length bytes) (length out) h) (refl, refl)
 
-  pub bad : good ≡ false → (written not_valid 0 ≡ writtenAs bytes good out) × (out ≡ bufferAs bytes good out)
+  pub bad : good ≡ false → (written not_valid 0 ≡ written_as bytes good out) × (out ≡ buffer_as bytes good out)
   bad v = rw v (refl, refl)
 
   -- what was written lies in the buffer
-  pub inside : (writtenAs bytes good out).bytes ≤ length out
+  pub inside : (written_as bytes good out).bytes ≤ length out
   inside = go good (fits bytes out) refl
     where
       go : (t u : Bool) → fits bytes out ≡ u → (cond t (cond u (written 0 (length bytes)) (written unfit_output 0)) (written not_valid 0)).bytes ≤ length out

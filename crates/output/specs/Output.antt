@@ -12,9 +12,9 @@ abbrev pub fits : List ℕ → List ℕ → Bool
 fits bytes out = leb (length bytes) (length out)
 
 -- what a write of the bytes of something answers, if that is valid or not
-abbrev pub writtenAs : List ℕ → Bool → List ℕ → Written
-writtenAs bytes good out = cond good (cond (fits bytes out) (written 0 (length bytes)) (written unfit_output 0)) (written not_valid 0)
+abbrev pub written_as : List ℕ → Bool → List ℕ → Written
+written_as bytes good out = cond good (cond (fits bytes out) (written 0 (length bytes)) (written unfit_output 0)) (written not_valid 0)
 
 -- a write changes exactly the bytes; a refused write changes none
-abbrev pub bufferAs : List ℕ → Bool → List ℕ → List ℕ
-bufferAs bytes good out = cond (good && fits bytes out) (bytes ++ drop (length bytes) out) out
+abbrev pub buffer_as : List ℕ → Bool → List ℕ → List ℕ
+buffer_as bytes good out = cond (good && fits bytes out) (bytes ++ drop (length bytes) out) out

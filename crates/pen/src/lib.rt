@@ -79,7 +79,8 @@ fn to_unsigned(v: i32, n: usize) -> u32
     requires { (0 < n) × (n ≤ 32) × (holds (signed n) v ≡ true) }
     ensures { result ≡ complement n v }
 {
-    if 0 <= v {
+    let plain = 0 <= v;
+    if plain {
         v as u32
     } else {
         let whole: u64 = 1 << n;

@@ -10,7 +10,7 @@ use borrow.Author.Tests.{leb-true}
 use lib.Dec.{leb}
 use lib.IntN.{ℤ}
 use lib.ListN.{length, take, drop, get_or}
-use Rattle.refusals.specs.Refusals.{not_valid, too_many_points, notATrack}
+use Rattle.refusals.specs.Refusals.{not_valid, too_many_points, not_a_track}
 use Rattle.tree.specs.Bits.{bits_of, Bytes}
 use Rattle.tree.specs.Reading.{Out, ok, no}
 use Rattle.element.specs.declared.Element.{Element}
@@ -40,7 +40,7 @@ use Rattle.tables.specs.Table.{flat_point, table_in}
 use Rattle.tables.proofs.Back.{TypedPoint, AllTyped, cleared-typed, padded_back, track_typed}
 use Rattle.pimlasut.specs.Boundary.{kind_number, facts_of, point_named, placing, placed_table, looking, joining, joined_table}
 
-done_by : (u v w : Bool) → ◌≡◌ {A = ℕ} (cond u (cond v (cond w 0 too_many_points) notATrack) notATrack) 0 → (u ≡ true) × (v ≡ true) × (w ≡ true)
+done_by : (u v w : Bool) → ◌≡◌ {A = ℕ} (cond u (cond v (cond w 0 too_many_points) not_a_track) not_a_track) 0 → (u ≡ true) × (v ≡ true) × (w ≡ true)
 done_by true true true e = (refl, refl, refl)
 done_by true true false e = absurd (omega (arith, e))
 done_by true false w e = absurd (omega (arith, e))
@@ -92,7 +92,7 @@ pub looked_up_is_named : (table : List ℤ) (count : ℕ) (picture : ℤ) → re
 looked_up_is_named table count picture = go (is_track (table_in table) count) refl
   where
     go : (b : Bool) → is_track (table_in table) count ≡ b
-        → let a = cond b (shown (point_in_force picture (take count (table_in table)))) (none_in_force notATrack) in record_in (drop 2 (flat_point a.point)) ≡ a.point.«record»
+        → let a = cond b (shown (point_in_force picture (take count (table_in table)))) (none_in_force not_a_track) in record_in (drop 2 (flat_point a.point)) ≡ a.point.«record»
     go true e = shown_named (point_in_force picture (take count (table_in table))) (in_force_typed picture (take count (table_in table)) (track_typed table count e))
     go false e = shown_named none tt
 

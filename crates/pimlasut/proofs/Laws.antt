@@ -9,9 +9,9 @@ use lib.Dec.{eqb, leb}
 use lib.IntN.{ℤ}
 use lib.ListN.{length, take, drop, drop_of_length-le}
 use lib.Seq.{paste, take_all}
-use Rattle.refusals.specs.Refusals.{unfit_output, not_valid, too_many_points, notATrack}
+use Rattle.refusals.specs.Refusals.{unfit_output, not_valid, too_many_points, not_a_track}
 use Rattle.output.specs.declared.Written.{Written}
-use Rattle.output.specs.Output.{writtenAs, bufferAs, fits}
+use Rattle.output.specs.Output.{written_as, buffer_as, fits}
 use Rattle.record.specs.declared.Record.{Record}
 use Rattle.record.proofs.Laws.{and_both}
 use Rattle.valid.specs.Valid.{valid, Proper}
@@ -119,7 +119,7 @@ answer_by bytes t u = cond t (cond u (record { result = 0; bytes = length bytes 
 abbrev buffer_by : List ℕ → List ℕ → Bool → List ℕ
 buffer_by bytes out t = cond t (bytes ++ drop (length bytes) out) out
 
-buffer_kept : (bytes : List ℕ) (good : Bool) (out : List ℕ) (n : ℕ) → n ≡ (writtenAs bytes good out).result → bufferAs bytes good out ≡ after n (bufferAs bytes good out) out
+buffer_kept : (bytes : List ℕ) (good : Bool) (out : List ℕ) (n : ℕ) → n ≡ (written_as bytes good out).result → buffer_as bytes good out ≡ after n (buffer_as bytes good out) out
 buffer_kept bytes good out n e = go good (fits bytes out) e
   where
     go : (t u : Bool) → n ≡ (answer_by bytes t u).result → buffer_by bytes out (t && u) ≡ after n (buffer_by bytes out (t && u)) out
@@ -127,7 +127,7 @@ buffer_kept bytes good out n e = go good (fits bytes out) e
     go true false h = kept n out out (λ z. omega (arith, h, z))
     go false u h = kept n out out (λ z. omega (arith, h, z))
 
-few_as : (bytes : List ℕ) (good : Bool) (out : List ℕ) → (good ≡ true → length bytes < 4294967296) → (writtenAs bytes good out).bytes < 4294967296
+few_as : (bytes : List ℕ) (good : Bool) (out : List ℕ) → (good ≡ true → length bytes < 4294967296) → (written_as bytes good out).bytes < 4294967296
 few_as bytes good out few = go good (fits bytes out) few
   where
     go : (t u : Bool) → (t ≡ true → length bytes < 4294967296) → (answer_by bytes t u).bytes < 4294967296
@@ -136,9 +136,9 @@ few_as bytes good out few = go good (fits bytes out) few
     go false u h = omega arith
 
 -- bytes of something, written, as they are given
-module _ (bytes : List ℕ) (good : Bool) (out : List ℕ) {w : Written} (f : w ≡ writtenAs bytes good out) where
-  given_as : (k : ℕ) {out' : List ℕ} {n k' : ℕ} → out' ≡ bufferAs bytes good out → n ≡ w.result → k' ≡ after n w.bytes k
-      → (n ≡ (writtenAs bytes good out).result) × ((out' ≡ after n (bufferAs bytes good out) out) × (k' ≡ after n (writtenAs bytes good out).bytes k))
+module _ (bytes : List ℕ) (good : Bool) (out : List ℕ) {w : Written} (f : w ≡ written_as bytes good out) where
+  given_as : (k : ℕ) {out' : List ℕ} {n k' : ℕ} → out' ≡ buffer_as bytes good out → n ≡ w.result → k' ≡ after n w.bytes k
+      → (n ≡ (written_as bytes good out).result) × ((out' ≡ after n (buffer_as bytes good out) out) × (k' ≡ after n (written_as bytes good out).bytes k))
   given_as k {n = n} g h i =
       let result = h ∙ ap (λ (w : Written). w.result) f in
       (result, (g ∙ buffer_kept bytes good out n result, i ∙ ap (λ (w : Written). after n w.bytes k) f))
@@ -158,7 +158,7 @@ few_unit_bytes r p = omega (arith, most_unit_bytes_lem r p)
 
 -- a row's record, written in a coding, as it is given
 module _ (code : Record → List ℕ) (row : List ℤ) (out : List ℕ) (l : length row ≡ flat_length) {r : Record} (e : r ≡ record_in (take flat_length (drop 0 row)))
-    {w : Written} (f : w ≡ writtenAs (code r) (valid r) out) where
+    {w : Written} (f : w ≡ written_as (code r) (valid r) out) where
   abbrev bytes : List ℕ
   bytes = code (record_in row)
 
@@ -168,18 +168,18 @@ module _ (code : Record → List ℕ) (row : List ℤ) (out : List ℕ) (l : len
   whole : r ≡ record_in row
   whole = e ∙ ap record_in (whole_row row flat_length l)
 
-  answer : w ≡ writtenAs bytes good out
-  answer = f ∙ ap (λ (r : Record). writtenAs (code r) (valid r) out) whole
+  answer : w ≡ written_as bytes good out
+  answer = f ∙ ap (λ (r : Record). written_as (code r) (valid r) out) whole
 
   pub few_written : FewBytes code → w.bytes < 4294967296
   few_written few =
       omega (arith, ap (λ (w : Written). w.bytes) answer, few_as bytes good out (λ v. few (record_in row) (record { places = length_in row; valid_record = v })))
 
-  pub given_written : (k : ℕ) {out' : List ℕ} {n k' : ℕ} → out' ≡ bufferAs (code r) (valid r) out → n ≡ w.result → k' ≡ after n w.bytes k
-      → (n ≡ if_sized (is_record row) (writtenAs bytes good out).result) × ((out' ≡ after n (bufferAs bytes good out) out) × (k' ≡ after n (writtenAs bytes good out).bytes k))
+  pub given_written : (k : ℕ) {out' : List ℕ} {n k' : ℕ} → out' ≡ buffer_as (code r) (valid r) out → n ≡ w.result → k' ≡ after n w.bytes k
+      → (n ≡ if_sized (is_record row) (written_as bytes good out).result) × ((out' ≡ after n (buffer_as bytes good out) out) × (k' ≡ after n (written_as bytes good out).bytes k))
   given_written k g h i =
-      let p = given_as bytes good out answer k (g ∙ ap (λ (r : Record). bufferAs (code r) (valid r) out) whole) h i in
-      (p.0 ∙ right (is_record row) (writtenAs bytes good out).result (eq-eqb (length row) flat_length l), p.1)
+      let p = given_as bytes good out answer k (g ∙ ap (λ (r : Record). buffer_as (code r) (valid r) out) whole) h i in
+      (p.0 ∙ right (is_record row) (written_as bytes good out).result (eq-eqb (length row) flat_length l), p.1)
 
 -- ---- a reason
 
@@ -199,7 +199,7 @@ abbrev found_by : ℕ → Bool → Sought
 found_by k t = cond t (none_sought 0) (sought_at (k - 1))
 
 abbrev sought_by : ℕ → Bool → Sought
-sought_by k t = cond t (found_by k (eqb k 0)) (none_sought notATrack)
+sought_by k t = cond t (found_by k (eqb k 0)) (none_sought not_a_track)
 
 done_by : (k : ℕ) (t : Bool) → (found_by k t).result ≡ 0
 done_by k true = refl
@@ -253,7 +253,7 @@ fitting_count c false h = omega arith
 pub few_points : (s : Scanned) (n : ℕ) (t : Scanned) (m k : ℕ) → (plan_of s n t m k).count ≤ most_points
 few_points s n t m k = go s.track t.track (eqb k most_points)
   where
-    go : (u v w : Bool) → (cond u (cond v (cond w (layout_of (merged_sources s.pictures n t.pictures m)) (refused_layout unfit_output)) (refused_layout notATrack)) (refused_layout notATrack)).count ≤ most_points
+    go : (u v w : Bool) → (cond u (cond v (cond w (layout_of (merged_sources s.pictures n t.pictures m)) (refused_layout unfit_output)) (refused_layout not_a_track)) (refused_layout not_a_track)).count ≤ most_points
     go true true true = fitting_count (merged_sources s.pictures n t.pictures m) (leb (length (merged_sources s.pictures n t.pictures m)) most_points) (leb-true (length (merged_sources s.pictures n t.pictures m)) most_points)
     go true true false = omega arith
     go true false w = omega arith

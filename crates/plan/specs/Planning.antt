@@ -1,6 +1,6 @@
 -- Where each point of a join comes from, by the numbers alone.
 use Rattle.std.specs.Prelude.{ℕ, suc, ◌+◌, ◌-◌, Bool, cond, List, [], ◌∷◌, ◌++◌, map, ℤ, length, take, drop, get_or, replicate, eqb, ltb, leb}
-use Rattle.refusals.specs.Refusals.{unfit_output, too_many_points, notATrack}
+use Rattle.refusals.specs.Refusals.{unfit_output, too_many_points, not_a_track}
 use Rattle.keyed.specs.Keyed.{Compared, less, same, greater, join, Rising}
 use Rattle.plan.specs.declared.Scanned.{Scanned}
 use Rattle.plan.specs.declared.Layout.{Layout}
@@ -96,7 +96,7 @@ merged_sources a n b m = map source_of (join_tags (first_tags n a) (second_tags 
 -- 01, Refusal numbers: first track 16, second track 16, result table 13, then 15
 abbrev pub plan_of : Scanned → ℕ → Scanned → ℕ → ℕ → Layout
 plan_of s n t m entries =
-    cond s.track (cond t.track (cond (eqb entries most_points) (layout_of (merged_sources s.pictures n t.pictures m)) (refused_layout unfit_output)) (refused_layout notATrack)) (refused_layout notATrack)
+    cond s.track (cond t.track (cond (eqb entries most_points) (layout_of (merged_sources s.pictures n t.pictures m)) (refused_layout unfit_output)) (refused_layout not_a_track)) (refused_layout not_a_track)
 
 -- how many entries are filled: none where it is refused
 abbrev pub bound_of : Layout → ℕ

@@ -1,7 +1,7 @@
 -- Where the point in force stands, by the numbers alone.
 use Rattle.std.specs.Prelude.{ℕ, suc, ◌-◌, true, false, cond, List, [], ◌∷◌, ℤ, take, eqb}
 use Rattle.std.specs.Int.Signed.{lt_z}
-use Rattle.refusals.specs.Refusals.{notATrack}
+use Rattle.refusals.specs.Refusals.{not_a_track}
 use Rattle.plan.specs.declared.Scanned.{Scanned}
 use Rattle.plan.specs.declared.Sought.{Sought}
 
@@ -24,4 +24,4 @@ found_at k = cond (eqb k 0) (none_sought 0) (sought_at (k - 1))
 
 -- 01, Refusal numbers: lookup refuses only with 16
 abbrev pub seek_of : Scanned → ℕ → ℤ → Sought
-seek_of seen n p = cond seen.track (found_at (reach_of p (take n seen.pictures))) (none_sought notATrack)
+seek_of seen n p = cond seen.track (found_at (reach_of p (take n seen.pictures))) (none_sought not_a_track)

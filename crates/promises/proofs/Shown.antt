@@ -9,7 +9,7 @@ use lib.Dec.{T, eqb, leb}
 use lib.IntN.{ℤ}
 use lib.Signed.{lt_z}
 use lib.ListN.{length}
-use Rattle.refusals.specs.Refusals.{unfit_output, too_many_points, notATrack}
+use Rattle.refusals.specs.Refusals.{unfit_output, too_many_points, not_a_track}
 use Rattle.keyed.specs.Keyed.{or_else, later_by, Compared, less, same, greater, later}
 use Rattle.keyed.proofs.Laws.{held_in_join, join_rising, joined_shows_the_later_start}
 use Rattle.plan.specs.Limit.{most_points}
@@ -24,12 +24,12 @@ use Rattle.promises.proofs.TrackLaws.{parts, in_order, made_track, done_means, j
 
 -- ---- a lookup
 
-pub no_track_is_refused : (t : Table) (p : ℤ) → is_track t.entries t.count ≡ false → shown_at t p ≡ none_in_force notATrack
-no_track_is_refused t p e = ap (λ (b : Bool). cond b (shown (point_in_force p (points_in t))) (none_in_force notATrack)) e
+pub no_track_is_refused : (t : Table) (p : ℤ) → is_track t.entries t.count ≡ false → shown_at t p ≡ none_in_force not_a_track
+no_track_is_refused t p e = ap (λ (b : Bool). cond b (shown (point_in_force p (points_in t))) (none_in_force not_a_track)) e
 
 -- a lookup in a track shows the record in force, or nothing: "nothing" is `found` false, which no record has, one without blocks neither
 pub track_shows : (t : Table) (p : ℤ) → Track t → shown_at t p ≡ shown (point_in_force p (points_in t))
-track_shows t p v = ap (λ (b : Bool). cond b (shown (point_in_force p (points_in t))) (none_in_force notATrack)) v
+track_shows t p v = ap (λ (b : Bool). cond b (shown (point_in_force p (points_in t))) (none_in_force not_a_track)) v
 
 -- a track that has not started at a picture shows nothing there
 pub not_started : (t : Table) (p : ℤ) → Track t → start_at t p ≡ none → shown_at t p ≡ none_in_force 0
@@ -59,14 +59,14 @@ one_track s t e =
 
 pub lookup_past : (s t : Table) (p : ℤ) → Alike s t → shown_at s p ≡ shown_at t p
 lookup_past s t p e =
-    ap (λ (b : Bool). cond b (shown (point_in_force p (points_in s))) (none_in_force notATrack)) (one_track s t e)
-    ∙ ap (λ (l : List Point). cond (is_track t.entries t.count) (shown (point_in_force p l)) (none_in_force notATrack)) e.points_same
+    ap (λ (b : Bool). cond b (shown (point_in_force p (points_in s))) (none_in_force not_a_track)) (one_track s t e)
+    ∙ ap (λ (l : List Point). cond (is_track t.entries t.count) (shown (point_in_force p l)) (none_in_force not_a_track)) e.points_same
 
 pub join_past : (a b s t : Table) (result : List Point) → Alike a s → Alike b t → (answer_into a b result ≡ answer_into s t result) × (joined_into a b result ≡ joined_into s t result)
 join_past a b s t result e f =
     let l : join_points (points_in a) (points_in b) ≡ join_points (points_in s) (points_in t) =
     ap (λ (k : List Point). join_points k (points_in b)) e.points_same ∙ ap (join_points (points_in s)) f.points_same in
-    let number_of_lem : Bool → Bool → List Point → ℕ = (λ p q k. cond p (cond q (cond (eqb (length result) most_points) (cond (leb (length k) most_points) 0 too_many_points) unfit_output) notATrack) notATrack) in
+    let number_of_lem : Bool → Bool → List Point → ℕ = (λ p q k. cond p (cond q (cond (eqb (length result) most_points) (cond (leb (length k) most_points) 0 too_many_points) unfit_output) not_a_track) not_a_track) in
     let made : Bool → Bool → List Point → Table = (λ p q k. table_of (cond (eqb (number_of_lem p q k) 0) (padded k) result) (joined_at (number_of_lem p q k) k).count) in
     let told : Bool → Bool → List Point → Joined = (λ p q k. joined_at (number_of_lem p q k) k) in
     let u = one_track a s e in

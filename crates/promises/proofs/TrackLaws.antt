@@ -10,7 +10,7 @@ use lib.Dec.{eqb, leb}
 use lib.IntN.{ℤ}
 use lib.ListN.{length, drop, replicate, length-append, length-drop, length-replicate}
 use lib.Seq.{take_at, length-take-le}
-use Rattle.refusals.specs.Refusals.{unfit_output, too_many_points, notATrack}
+use Rattle.refusals.specs.Refusals.{unfit_output, too_many_points, not_a_track}
 use Rattle.record.proofs.Laws.{and_left, and_right, and_both}
 use Rattle.keyed.specs.Keyed.{Compared, less, same, greater, held_at_by}
 use Rattle.keyed.proofs.Laws.{some_one, some_none}
@@ -57,7 +57,7 @@ pub as_many_as_counted : (t : Table) → Track t → length (points_in t) ≡ t.
 as_many_as_counted t v = let p = parts t v in length-take-le t.count t.entries (let f = p.full in let g = p.few in omega arith)
 
 -- ---- a join that is done
-done : (p q s t : Bool) → ◌≡◌ {A = ℕ} (cond p (cond q (cond s (cond t 0 too_many_points) unfit_output) notATrack) notATrack) 0 → (p ≡ true) × ((q ≡ true) × ((s ≡ true) × (t ≡ true)))
+done : (p q s t : Bool) → ◌≡◌ {A = ℕ} (cond p (cond q (cond s (cond t 0 too_many_points) unfit_output) not_a_track) not_a_track) 0 → (p ≡ true) × ((q ≡ true) × ((s ≡ true) × (t ≡ true)))
 done true true true true e = (refl, (refl, (refl, refl)))
 done true true true false e = absurd (omega arith)
 done true true false t e = absurd (omega arith)
@@ -95,7 +95,7 @@ abbrev pub outcome : List Point → Joined
 outcome l = joined_at (cond (leb (length l) most_points) 0 too_many_points) l
 
 answer_at : (p q s : Bool) (l : List Point) → p ≡ true → q ≡ true → s ≡ true
-    → joined_at (cond p (cond q (cond s (cond (leb (length l) most_points) 0 too_many_points) unfit_output) notATrack) notATrack) l ≡ outcome l
+    → joined_at (cond p (cond q (cond s (cond (leb (length l) most_points) 0 too_many_points) unfit_output) not_a_track) not_a_track) l ≡ outcome l
 answer_at true true true l ep eq es = refl
 answer_at true true false l ep eq es = let z : ◌≡◌ {A = ℕ} 0 1 = cc in absurd (omega arith)
 answer_at true false s l ep eq es = let z : ◌≡◌ {A = ℕ} 0 1 = cc in absurd (omega arith)

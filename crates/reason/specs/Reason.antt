@@ -4,7 +4,7 @@ use Prim.Native.String.{String}
 use Rattle.std.specs.Int.Signed.{le_z}
 use Rattle.tree.specs.Reading.{Allowed, between, other_than, Fault, cut_off, overlong, breaks, number_in, element_in, Out, ok, no}
 use Rattle.output.specs.declared.Written.{Written}
-use Rattle.output.specs.Output.{writtenAs, bufferAs}
+use Rattle.output.specs.Output.{written_as, buffer_as}
 use Rattle.text.specs.Text.{ascii, decimal, numeral, line, line_text}
 use Rattle.element.specs.declared.Element.TheVariants.{ExtDmAlignmentZeroBit}
 use Rattle.element.specs.Element.{number_of}
@@ -73,7 +73,7 @@ longest = reason (2 ^ 8 - 1) (2 ^ 32 - 1) (range ExtDmAlignmentZeroBit (2 ^ 64 -
 
 -- write_reason: the answer, and the buffer afterwards
 abbrev pub write_reason : Reading → List ℕ → Written
-write_reason q out = writtenAs (reason_text q) true out
+write_reason q out = written_as (reason_text q) true out
 
 abbrev pub reason_buffer : Reading → List ℕ → List ℕ
-reason_buffer q out = bufferAs (reason_text q) true out
+reason_buffer q out = buffer_as (reason_text q) true out

@@ -7,7 +7,7 @@ use Rattle.record.proofs.Record.empty.Kinds as empty
 use Rattle.record.proofs.Record.empty.Reads as empty-contract
 use Rattle.record.proofs.level_of.Kinds as level_of_lem
 use Rattle.record.proofs.level_of.Reads as level-of-contract
-use Rattle.record.proofs.is_known.Kinds as is_Known
+use Rattle.record.proofs.is_known.Kinds as is_known
 use Rattle.record.proofs.is_known.Reads as is-known-contract
 use Rattle.record.proofs.bytes_of.Kinds as bytes_of
 use Rattle.record.proofs.bytes_of.Reads as bytes-of-contract
@@ -31,7 +31,7 @@ empty_one κs a x y s t e f = e ∙ sym f
 pub level_of_one : OneResult level_of_lem.ps level_of_lem.r level-of-contract.Post
 level_of_one κs a x y s t e f = e ∙ sym f
 
-pub is_known_one : OneResult is_Known.ps is_Known.r is-known-contract.Post
+pub is_known_one : OneResult is_known.ps is_known.r is-known-contract.Post
 is_known_one κs a x y s t e f = e ∙ sym f
 
 pub bytes_of_one : OneResult bytes_of.ps bytes_of.r bytes-of-contract.Post

@@ -58,8 +58,8 @@ abbrev pub too_many_points : ℕ
 too_many_points = 15
 
 -- not a track
-abbrev pub notATrack : ℕ
-notATrack = 16
+abbrev pub not_a_track : ℕ
+not_a_track = 16
 
 -- 02, e: second level 1
 abbrev pub second_level1 : ℕ

@@ -11,7 +11,7 @@ use lib.ListN.{length, get_or, take, drop, set, drop_of_length-le, length-append
 use lib.Seq.{take_all, take_at}
 use Rattle.refusals.specs.Refusals.{wrong_unit, start_code_inside, not_valid}
 use Rattle.output.specs.declared.Written.{Written}
-use Rattle.output.specs.Output.{writtenAs, bufferAs}
+use Rattle.output.specs.Output.{written_as, buffer_as}
 use Rattle.output.proofs.Output.{done, bad}
 use Rattle.record.specs.declared.Record.{Record}
 use Rattle.record.specs.Blocks.{most_blocks}
@@ -113,7 +113,7 @@ pub most_unit_bytes_lem : (r : Record) → Proper r → length (unit_bytes r) �
 most_unit_bytes_lem r p = omega (arith, message-length r p.places p.valid_record, escaped_fits (message_rbsp r))
 
 -- the message is first written into a body that it always fits
-module _ (r : Record) (p : length r.places ≡ most_blocks) (body : List ℕ) (l : length body ≡ 235) (w : Written) (e : w ≡ writtenAs (message_rbsp r) (valid r) body) where
+module _ (r : Record) (p : length r.places ≡ most_blocks) (body : List ℕ) (l : length body ≡ 235) (w : Written) (e : w ≡ written_as (message_rbsp r) (valid r) body) where
   -- where that is refused, the record is not valid, and the unit is refused with the same answer
   pub message_refused : (out : List ℕ) → (w.result ≡ 0 → ⊥) → (w ≡ write_unit r out) × (out ≡ unit_buffer r out)
   message_refused out n = go (valid r) refl
@@ -128,10 +128,10 @@ module _ (r : Record) (p : length r.places ≡ most_blocks) (body : List ℕ) (l
           (e ∙ sym x.0 ∙ y.0, y.1)
 
   -- where it is written, the record is valid, and the body begins with the message
-  pub message_written : w.result ≡ 0 → (valid r ≡ true) × (w.bytes ≡ length (message_rbsp r)) × (bufferAs (message_rbsp r) (valid r) body ≡ message_rbsp r ++ drop (length (message_rbsp r)) body)
+  pub message_written : w.result ≡ 0 → (valid r ≡ true) × (w.bytes ≡ length (message_rbsp r)) × (buffer_as (message_rbsp r) (valid r) body ≡ message_rbsp r ++ drop (length (message_rbsp r)) body)
   message_written n = go (valid r) refl
     where
-      go : (t : Bool) → valid r ≡ t → (valid r ≡ true) × (w.bytes ≡ length (message_rbsp r)) × (bufferAs (message_rbsp r) (valid r) body ≡ message_rbsp r ++ drop (length (message_rbsp r)) body)
+      go : (t : Bool) → valid r ≡ t → (valid r ≡ true) × (w.bytes ≡ length (message_rbsp r)) × (buffer_as (message_rbsp r) (valid r) body ≡ message_rbsp r ++ drop (length (message_rbsp r)) body)
       go true v =
           let x = done (message_rbsp r) (valid r) body v (omega (arith, message-length r p v)) in
           (v, ap (λ (a : Written). a.bytes) (e ∙ sym x.0), sym x.1)
@@ -142,8 +142,8 @@ module _ (r : Record) (p : length r.places ≡ most_blocks) (body : List ℕ) (l
 
 -- the unit of a valid record is what is written of its message
 pub unit_written : (r : Record) (message out : List ℕ) → valid r ≡ true → message ≡ message_rbsp r
-    → (writtenAs (our_header ++ escaped message) true out ≡ write_unit r out) × (bufferAs (our_header ++ escaped message) true out ≡ unit_buffer r out)
+    → (written_as (our_header ++ escaped message) true out ≡ write_unit r out) × (buffer_as (our_header ++ escaped message) true out ≡ unit_buffer r out)
 unit_written r message out v e = (
-  ap (λ (m : List ℕ). writtenAs (our_header ++ escaped m) true out) e ∙ ap (λ (t : Bool). writtenAs (unit_bytes r) t out) (sym v),
-  ap (λ (m : List ℕ). bufferAs (our_header ++ escaped m) true out) e ∙ ap (λ (t : Bool). bufferAs (unit_bytes r) t out) (sym v),
+  ap (λ (m : List ℕ). written_as (our_header ++ escaped m) true out) e ∙ ap (λ (t : Bool). written_as (unit_bytes r) t out) (sym v),
+  ap (λ (m : List ℕ). buffer_as (our_header ++ escaped m) true out) e ∙ ap (λ (t : Bool). buffer_as (unit_bytes r) t out) (sym v),
 )

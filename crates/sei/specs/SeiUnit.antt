@@ -2,7 +2,7 @@
 use Rattle.std.specs.Prelude.{ℕ, Bool, cond, List, [], ◌∷◌, ◌++◌, drop}
 use Rattle.refusals.specs.Refusals.{wrong_unit, start_code_inside}
 use Rattle.output.specs.declared.Written.{Written}
-use Rattle.output.specs.Output.{writtenAs, bufferAs}
+use Rattle.output.specs.Output.{written_as, buffer_as}
 use Rattle.record.specs.declared.Record.{Record}
 use Rattle.valid.specs.Valid.{valid}
 use Rattle.reader.specs.declared.Reading.{Reading}
@@ -18,7 +18,7 @@ unit_of first second ms = first ∷ second ∷ escaped (sei_rbsp ms)
 
 -- read_unit: 30, then 31, then 32 and 33, each over the whole unit and before document 01's numbers
 abbrev pub read_body : Bool → List ℕ → Reading
-read_body startCode u = cond startCode (unplaced start_code_inside) (read_messages (removed (drop 2 u)))
+read_body start_code u = cond start_code (unplaced start_code_inside) (read_messages (removed (drop 2 u)))
 
 abbrev pub read_unit : List ℕ → Reading
 read_unit u = cond (admitted u) (read_body (forbidden u) u) (unplaced wrong_unit)
@@ -33,10 +33,10 @@ unit_bytes r = our_header ++ escaped (message_rbsp r)
 
 -- write_unit: the answer, and the buffer afterwards
 abbrev pub write_unit : Record → List ℕ → Written
-write_unit r out = writtenAs (unit_bytes r) (valid r) out
+write_unit r out = written_as (unit_bytes r) (valid r) out
 
 abbrev pub unit_buffer : Record → List ℕ → List ℕ
-unit_buffer r out = bufferAs (unit_bytes r) (valid r) out
+unit_buffer r out = buffer_as (unit_bytes r) (valid r) out
 
 -- how many bytes always suffice for it; a bound, and not the longest
 abbrev pub sufficient_bytes : ℕ

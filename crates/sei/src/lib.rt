@@ -2,7 +2,7 @@
 #![tactic(auto)]
 
 ghost use Rattle.std.specs.Prelude.{◌≡◌, true, ◌++◌, ◌≤◌, ◌<◌, ◌^◌, length};
-ghost use Rattle.output.specs.Output.{writtenAs, bufferAs};
+ghost use Rattle.output.specs.Output.{written_as, buffer_as};
 ghost use Rattle.emulation.specs.Emulation.{removed, escaped};
 ghost use Rattle.messages.specs.Answer.{read_messages};
 ghost use Rattle.sei.specs.Header.{allowed_header, admitted, most_unit_bytes};
@@ -70,8 +70,8 @@ pub fn read_unit(input: &[u8]) -> Reading
 // Writes the header and the bytes with their emulation bytes, if there is room for them.
 fn write_escaped(body: &[u8], out: &mut [u8]) -> Written
     requires { length body.now < 2 ^ 32 }
-    ensures result { result ≡ writtenAs (our_header ++ escaped body.now) true out.old }
-    ensures buffer { out.new ≡ bufferAs (our_header ++ escaped body.now) true out.old }
+    ensures result { result ≡ written_as (our_header ++ escaped body.now) true out.old }
+    ensures buffer { out.new ≡ buffer_as (our_header ++ escaped body.now) true out.old }
 {
     let n = emulation::escaped_length(body) + HEADER_BYTES;
     if out.len() < n {

@@ -11,7 +11,7 @@ use lib.IntN.{ℤ}
 use lib.Signed.{lt_z}
 use lib.ListN.{length, take, length-map}
 use lib.Seq.{length-take-le, get_or-take}
-use Rattle.refusals.specs.Refusals.{notATrack}
+use Rattle.refusals.specs.Refusals.{not_a_track}
 use Rattle.keyed.specs.Keyed.{or_else, Compared, less, same, greater, Above, in_force_by}
 use Rattle.plan.specs.Limit.{most_points}
 use Rattle.plan.specs.declared.Sought.{Sought}
@@ -94,7 +94,7 @@ module _ (ys : List Point) (n : ℕ) (p : ℤ) where
       let l : length (map number (take n ys)) ≡ n = length-map (take n ys) number ∙ length-take-le n ys (let f = t.full in let w = t.few in omega (arith, f, w)) in
       omega (arith, h, l)
 
-  find_by : (b : Bool) → is_track ys n ≡ b → look_from ys (cond b (found_at r) (none_sought notATrack)) ≡ cond b (shown (point_in_force p (take n ys))) (none_in_force notATrack)
+  find_by : (b : Bool) → is_track ys n ≡ b → look_from ys (cond b (found_at r) (none_sought not_a_track)) ≡ cond b (shown (point_in_force p (take n ys))) (none_in_force not_a_track)
   find_by true e =
       ap (λ (k : ℕ). look_from ys (found_at k)) (r_is e) ∙ look_at ys n (reached p (take n ys)) (r_le e) ∙ ap shown (sym (in_force_at p (take n ys) (rise_rising (take n ys) (is_track_lem ys n e).rises)))
   find_by false e = refl
@@ -102,8 +102,8 @@ module _ (ys : List Point) (n : ℕ) (p : ℤ) where
   abbrev pub seek : Sought
   seek = seek_of (scan_of ys n) n p
 
-  seek_is : seek ≡ cond (is_track ys n) (found_at r) (none_sought notATrack)
-  seek_is = ap (λ (u : Bool). cond u (found_at r) (none_sought notATrack)) (scan_track ys n)
+  seek_is : seek ≡ cond (is_track ys n) (found_at r) (none_sought not_a_track)
+  seek_is = ap (λ (u : Bool). cond u (found_at r) (none_sought not_a_track)) (scan_track ys n)
 
   pub look_is : look_from ys seek ≡ lookup_answer ys n p
   look_is = ap (look_from ys) seek_is ∙ find_by (is_track ys n) refl
@@ -119,7 +119,7 @@ module _ (ys : List Point) (n : ℕ) (p : ℤ) where
   at_by zero h e = no_way e
   at_by (suc i) h e = subst (λ (f : Sought). f.at < length ys) (sym (found_suc i)) h
 
-  inside_by : (b : Bool) → is_track ys n ≡ b → (cond b (found_at r) (none_sought notATrack)).found ≡ true → (cond b (found_at r) (none_sought notATrack)).at < length ys
+  inside_by : (b : Bool) → is_track ys n ≡ b → (cond b (found_at r) (none_sought not_a_track)).found ≡ true → (cond b (found_at r) (none_sought not_a_track)).at < length ys
   inside_by true e f =
       let t = is_track_lem ys n e in
       at_by r (let h = r_le e in let q = r_is e in let u = t.full in let w = t.few in omega (arith, h, q, u, w)) f

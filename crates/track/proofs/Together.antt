@@ -8,7 +8,7 @@ use borrow.Author.Tests.{eqb-true}
 use lib.Dec.{eqb, leb}
 use lib.IntN.{ℤ}
 use lib.ListN.{length, take, drop}
-use Rattle.refusals.specs.Refusals.{unfit_output, too_many_points, notATrack}
+use Rattle.refusals.specs.Refusals.{unfit_output, too_many_points, not_a_track}
 use Rattle.plan.specs.Limit.{most_points}
 use Rattle.plan.specs.declared.Layout.{Layout}
 use Rattle.plan.specs.Planning.{RisingTags, tags_from, second_tags, join_tags, source_of, merged_sources, refused_layout, layout_of, no_sources, plan_of}
@@ -35,7 +35,7 @@ module _ (a : List Point) (n : ℕ) (b : List Point) (m : ℕ) where
   J = join_of a n b m
 
   abbrev shape : Bool → Bool → Bool → Layout
-  shape u v w = cond u (cond v (cond w (layout_of C) (refused_layout unfit_output)) (refused_layout notATrack)) (refused_layout notATrack)
+  shape u v w = cond u (cond v (cond w (layout_of C) (refused_layout unfit_output)) (refused_layout not_a_track)) (refused_layout not_a_track)
 
   laid_is : (len : ℕ) → laid len ≡ shape (is_track a n) (is_track b m) (eqb len most_points)
   laid_is len = ap (λ (u : Bool). shape u (scan_of b m).track (eqb len most_points)) (scan_track a n) ∙ ap (λ (u : Bool). shape (is_track a n) u (eqb len most_points)) (scan_track b m)
@@ -53,7 +53,7 @@ module _ (a : List Point) (n : ℕ) (b : List Point) (m : ℕ) where
   fitting = record { result = 0; count = length C; sources = C ++ drop (length C) no_sources }
 
   abbrev number_by : Bool → Bool → Bool → ℕ
-  number_by u v w = cond u (cond v (cond w (cond (leb (length J) most_points) 0 too_many_points) unfit_output) notATrack) notATrack
+  number_by u v w = cond u (cond v (cond w (cond (leb (length J) most_points) 0 too_many_points) unfit_output) not_a_track) not_a_track
 
   answer_fits : (k : Bool) → length C ≡ length J → answer_of (cond k fitting (refused_layout too_many_points)) ≡ joined_at (cond k 0 too_many_points) J
   answer_fits true e = ap (λ (i : ℕ). record { result = 0; count = i }) e

@@ -2,7 +2,7 @@
 use Rattle.std.specs.Prelude.{ℕ, Bool, true, false, cond, ◌&&◌, List, [], ◌∷◌, ◌++◌, ℤ, pos, length, take, drop, replicate, eqb, leb}
 use Rattle.std.proofs.Math.Option.{Option, none, some}
 use Rattle.std.specs.Int.Signed.{lt_z}
-use Rattle.refusals.specs.Refusals.{unfit_output, not_valid, too_many_points, notATrack}
+use Rattle.refusals.specs.Refusals.{unfit_output, not_valid, too_many_points, not_a_track}
 use Rattle.record.specs.declared.Record.{Record}
 use Rattle.record.specs.Blocks.{empty_record}
 use Rattle.valid.specs.Valid.{valid}
@@ -89,7 +89,7 @@ shown (some x) = record { result = 0; found = true; point = x }
 
 -- lookup refuses only with 16; "nothing" is found false, which no point is
 abbrev pub lookup_answer : List Point → ℕ → ℤ → InForce
-lookup_answer table count picture = cond (is_track table count) (shown (point_in_force picture (points_of table count))) (none_in_force notATrack)
+lookup_answer table count picture = cond (is_track table count) (shown (point_in_force picture (points_of table count))) (none_in_force not_a_track)
 
 -- ---- join
 abbrev pub join_of : List Point → ℕ → List Point → ℕ → List Point
@@ -98,7 +98,7 @@ join_of a n b m = join_points (points_of a n) (points_of b m)
 -- first track 16, second track 16, result table 13, then 15; 0 means done
 abbrev pub join_refusal : List Point → ℕ → List Point → ℕ → ℕ → ℕ
 join_refusal a n b m entries =
-    cond (is_track a n) (cond (is_track b m) (cond (eqb entries most_points) (cond (leb (length (join_of a n b m)) most_points) 0 too_many_points) unfit_output) notATrack) notATrack
+    cond (is_track a n) (cond (is_track b m) (cond (eqb entries most_points) (cond (leb (length (join_of a n b m)) most_points) 0 too_many_points) unfit_output) not_a_track) not_a_track
 
 -- on a refusal the count is 0
 abbrev pub joined_at : ℕ → List Point → Joined

@@ -250,7 +250,7 @@ signed_holds n (negsuc v) h = go (ltb v (2 ^ n - 2 ^ (n - 1))) refl
         let e : pos (2 ^ n - suc v) ≡ negsuc v = sym (signed_low n (2 ^ n - suc v) m) ∙ h.1 in
         let z : ◌≡◌ {A = ℕ} 0 1 = cc in absurd (omega arith)
 
--- ue(v) holds the numbers below 2^(mostZeros+1) − 1
+-- ue(v) holds the numbers below 2^(most_zeros+1) − 1
 pub ue-holds : (v : ℕ) → v + 1 < 2 ^ suc most_zeros → holds_in variable (pos v) ≡ true
 ue-holds v h = lt-ltb (v + 1) (2 ^ suc most_zeros) h
 

@@ -59,16 +59,16 @@ module _ {N : Type 0} (About : List (Element N) → Rule N → Type 0) where
       (breaks_ranged (Says About) name (fixed (unsigned n)) k (pos low) (pos high) (λ at z. own_says at (element name (fixed (unsigned n)) z ∷ []) (range_rule name k (pos low) (pos high) at z) refl (own at z)))
       (λ z. says_done (natural z))
 
-  module _ {A : Type 0} (p : Syntax N A) (fixedValue : A) (hp : Breaks (Says About) p) where
-    pub says_given : (b : Bool) → Breaks (Says About) (given b p fixedValue)
-    says_given b = breaks_if (Says About) b p (done fixedValue) hp (says_done fixedValue)
+  module _ {A : Type 0} (p : Syntax N A) (fixed_value : A) (hp : Breaks (Says About) p) where
+    pub says_given : (b : Bool) → Breaks (Says About) (given b p fixed_value)
+    says_given b = breaks_if (Says About) b p (done fixed_value) hp (says_done fixed_value)
 
-    pub says_places : (most n : ℕ) → Breaks (Says About) (places most n p fixedValue)
+    pub says_places : (most n : ℕ) → Breaks (Says About) (places most n p fixed_value)
     unfolding places
     says_places zero n = says_done []
     says_places (suc most) n =
-        says_then (given (ltb 0 n) p fixedValue) (λ a. places most (n - 1) p fixedValue >>= λ others. done (a ∷ others)) (says_given (ltb 0 n))
-        (λ a. says_then (places most (n - 1) p fixedValue) (λ others. done (a ∷ others)) (says_places most (n - 1)) (λ others. says_done (a ∷ others)))
+        says_then (given (ltb 0 n) p fixed_value) (λ a. places most (n - 1) p fixed_value >>= λ others. done (a ∷ others)) (says_given (ltb 0 n))
+        (λ a. says_then (places most (n - 1) p fixed_value) (λ others. done (a ∷ others)) (says_places most (n - 1)) (λ others. says_done (a ∷ others)))
 
   pub says_aligned : {A : Type 0} (p : Syntax N A) → Breaks (Says About) p → (name : N) → ((at : ℕ) (z : ℤ) → About (element name (fixed (unsigned 1)) z ∷ []) (range_rule name not_zero (pos 0) (pos 0) at z)) → Breaks (Says About) (aligned name p)
   says_aligned p hp name own =
@@ -117,17 +117,17 @@ module _ {N : Type 0} (P : N → Descriptor → Type 0) where
   awaits_zeros name zero h = tt
   awaits_zeros name (suc n) h = awaits_then (ranged name (fixed (unsigned 1)) not_zero (pos 0) (pos 0)) (λ z. zero_bits name n) (λ at. (h, λ z. tt)) (λ z. awaits_zeros name n h)
 
-  module _ {A : Type 0} (p : Syntax N A) (fixedValue : A) (hp : Awaits P p) where
-    pub awaits_given : (b : Bool) → Awaits P (given b p fixedValue)
+  module _ {A : Type 0} (p : Syntax N A) (fixed_value : A) (hp : Awaits P p) where
+    pub awaits_given : (b : Bool) → Awaits P (given b p fixed_value)
     awaits_given true = hp
-    awaits_given false = awaits_done fixedValue
+    awaits_given false = awaits_done fixed_value
 
-    pub awaits_places : (most n : ℕ) → Awaits P (places most n p fixedValue)
+    pub awaits_places : (most n : ℕ) → Awaits P (places most n p fixed_value)
     unfolding places
     awaits_places zero n = awaits_done []
     awaits_places (suc most) n =
-        awaits_then (given (ltb 0 n) p fixedValue) (λ a. places most (n - 1) p fixedValue >>= λ others. done (a ∷ others)) (awaits_given (ltb 0 n))
-        (λ a. awaits_then (places most (n - 1) p fixedValue) (λ others. done (a ∷ others)) (awaits_places most (n - 1)) (λ others. awaits_done (a ∷ others)))
+        awaits_then (given (ltb 0 n) p fixed_value) (λ a. places most (n - 1) p fixed_value >>= λ others. done (a ∷ others)) (awaits_given (ltb 0 n))
+        (λ a. awaits_then (places most (n - 1) p fixed_value) (λ others. done (a ∷ others)) (awaits_places most (n - 1)) (λ others. awaits_done (a ∷ others)))
 
   pub awaits_aligned : {A : Type 0} (p : Syntax N A) → Awaits P p → (name : N) → P name (fixed (unsigned 1)) → Awaits P (aligned name p)
   unfolding Awaits
@@ -152,11 +152,11 @@ module _ {N : Type 0} (About : List (Element N) → Rule N → Type 0) where
   pub tells_limited : (name : N) (n k low high : ℕ) → ((at : ℕ) (z : ℤ) → About (element name (fixed (unsigned n)) z ∷ []) (range_rule name k (pos low) (pos high) at z)) → Tells About (limited name n k low high)
   tells_limited name n k low high own = record { speaks = says_limited About name n k low high own; awaited = awaits_limited FixedAt name n k low high refl }
 
-  pub tells_given : {A : Type 0} (p : Syntax N A) (fixedValue : A) → Tells About p → (b : Bool) → Tells About (given b p fixedValue)
-  tells_given p fixedValue hp b = record { speaks = says_given About p fixedValue hp.speaks b; awaited = awaits_given FixedAt p fixedValue hp.awaited b }
+  pub tells_given : {A : Type 0} (p : Syntax N A) (fixed_value : A) → Tells About p → (b : Bool) → Tells About (given b p fixed_value)
+  tells_given p fixed_value hp b = record { speaks = says_given About p fixed_value hp.speaks b; awaited = awaits_given FixedAt p fixed_value hp.awaited b }
 
-  pub tells_places : {A : Type 0} (p : Syntax N A) (fixedValue : A) → Tells About p → (most n : ℕ) → Tells About (places most n p fixedValue)
-  tells_places p fixedValue hp most n = record { speaks = says_places About p fixedValue hp.speaks most n; awaited = awaits_places FixedAt p fixedValue hp.awaited most n }
+  pub tells_places : {A : Type 0} (p : Syntax N A) (fixed_value : A) → Tells About p → (most n : ℕ) → Tells About (places most n p fixed_value)
+  tells_places p fixed_value hp most n = record { speaks = says_places About p fixed_value hp.speaks most n; awaited = awaits_places FixedAt p fixed_value hp.awaited most n }
 
   pub tells_aligned : {A : Type 0} (p : Syntax N A) → Tells About p → (name : N) → ((at : ℕ) (z : ℤ) → About (element name (fixed (unsigned 1)) z ∷ []) (range_rule name not_zero (pos 0) (pos 0) at z)) → Tells About (aligned name p)
   tells_aligned p hp name own = record { speaks = says_aligned About p hp.speaks name own; awaited = awaits_aligned FixedAt p hp.awaited name refl }

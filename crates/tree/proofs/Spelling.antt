@@ -28,14 +28,14 @@ all-zero (v ∷ l) h =
     consed p q = ap (λ (w : ℕ). w ∷ l) p ∙ ap (λ (m : List ℕ). 0 ∷ m) q
 
 -- places that each have the fixed value
-pub places_fixed_lem : {A : Type 0} (fixedValue : A) (is_fixed : A → Bool) (decides : (a : A) → is_fixed a ≡ true → a ≡ fixedValue) (most : ℕ) (l : List A) → places_fixed most is_fixed l ≡ true → l ≡ replicate most fixedValue
+pub places_fixed_lem : {A : Type 0} (fixed_value : A) (is_fixed : A → Bool) (decides : (a : A) → is_fixed a ≡ true → a ≡ fixed_value) (most : ℕ) (l : List A) → places_fixed most is_fixed l ≡ true → l ≡ replicate most fixed_value
 unfolding places_fixed
-places_fixed_lem fixedValue is_fixed decides zero [] h = refl
-places_fixed_lem fixedValue is_fixed decides zero (a ∷ l) h = let z : ◌≡◌ {A = ℕ} 0 1 = cc in clash z
-places_fixed_lem fixedValue is_fixed decides (suc most) [] h = let z : ◌≡◌ {A = ℕ} 0 1 = cc in clash z
-places_fixed_lem {A} fixedValue is_fixed decides (suc most) (a ∷ l) h =
+places_fixed_lem fixed_value is_fixed decides zero [] h = refl
+places_fixed_lem fixed_value is_fixed decides zero (a ∷ l) h = let z : ◌≡◌ {A = ℕ} 0 1 = cc in clash z
+places_fixed_lem fixed_value is_fixed decides (suc most) [] h = let z : ◌≡◌ {A = ℕ} 0 1 = cc in clash z
+places_fixed_lem {A} fixed_value is_fixed decides (suc most) (a ∷ l) h =
     let f = and_parts (is_fixed a) (places_fixed most is_fixed l) h in
-    ap (λ (w : A). w ∷ l) (decides a f.0) ∙ ap (λ (m : List A). fixedValue ∷ m) (places_fixed_lem fixedValue is_fixed decides most l f.1)
+    ap (λ (w : A). w ∷ l) (decides a f.0) ∙ ap (λ (m : List A). fixed_value ∷ m) (places_fixed_lem fixed_value is_fixed decides most l f.1)
 
 -- nothing is known
 abbrev pub Any : {B : Type 0} → B → Type 0
@@ -172,22 +172,22 @@ module _ {N : Type 0} (name : N) (n : ℕ) where
     limited_spelled = record { elements_of = λ v. field name n v ∷ []; fits = limited_fits n low high; spelled = λ at. record { takes = limited_takes at; only = limited_finds at } }
 
 -- ---- a part that is sent or not
-module _ {N A : Type 0} (p : Syntax N A) (fixedValue : A) (is_fixed : A → Bool) (own : is_fixed fixedValue ≡ true) (decides : (a : A) → is_fixed a ≡ true → a ≡ fixedValue) (hp : Spelled p) where
-  pub given_takes : (b : Bool) (at : ℕ) (a : A) → Any a × (given_fits b hp.fits is_fixed a ≡ true) → Follow (given b p fixedValue) at (given_elements b hp.elements_of a) (complete a)
+module _ {N A : Type 0} (p : Syntax N A) (fixed_value : A) (is_fixed : A → Bool) (own : is_fixed fixed_value ≡ true) (decides : (a : A) → is_fixed a ≡ true → a ≡ fixed_value) (hp : Spelled p) where
+  pub given_takes : (b : Bool) (at : ℕ) (a : A) → Any a × (given_fits b hp.fits is_fixed a ≡ true) → Follow (given b p fixed_value) at (given_elements b hp.elements_of a) (complete a)
   unfolding Follow
   given_takes true at a h = (hp.spelled at).takes a h
   given_takes false at a h = (refl, ap complete (decides a h.1))
 
-  pub given_finds : (b : Bool) (at : ℕ) (es : List (Element N)) (a : A) → Follow (given b p fixedValue) at es (complete a)
+  pub given_finds : (b : Bool) (at : ℕ) (es : List (Element N)) (a : A) → Follow (given b p fixed_value) at es (complete a)
       → (Any a × (given_fits b hp.fits is_fixed a ≡ true)) × (es ≡ given_elements b hp.elements_of a)
   given_finds true at es a h = (hp.spelled at).only es a h
-  given_finds false at es a h = let d = done_only fixedValue a at es h in rw d.1 ((tt, own), d.0)
+  given_finds false at es a h = let d = done_only fixed_value a at es h in rw d.1 ((tt, own), d.0)
 
-  abbrev pub given_spelled : (b : Bool) → Spelled (given b p fixedValue)
+  abbrev pub given_spelled : (b : Bool) → Spelled (given b p fixed_value)
   given_spelled b = record { elements_of = given_elements b hp.elements_of; fits = given_fits b hp.fits is_fixed; spelled = λ at. record { takes = given_takes b at; only = given_finds b at } }
 
   -- a part for each of several places
-  pub places-take : (most n at : ℕ) (l : List A) → Any l × (places_fit most n hp.fits is_fixed l ≡ true) → Follow (places most n p fixedValue) at (places_elements n hp.elements_of l) (complete l)
+  pub places-take : (most n at : ℕ) (l : List A) → Any l × (places_fit most n hp.fits is_fixed l ≡ true) → Follow (places most n p fixed_value) at (places_elements n hp.elements_of l) (complete l)
   unfolding places places_fit places_elements Follow
   places-take zero n at [] h = (refl, refl)
   places-take zero n at (a ∷ l) h = let e = h.1 in let z : ◌≡◌ {A = ℕ} 0 1 = cc in clash z
@@ -197,19 +197,19 @@ module _ {N A : Type 0} (p : Syntax N A) (fixedValue : A) (is_fixed : A → Bool
       let es = given_elements (ltb 0 n) hp.elements_of a in
       let fs = places_elements (n - 1) hp.elements_of l in
       let there = at + sum_of_widths es in
-      let r = together (places most (n - 1) p fixedValue) (λ others. done (a ∷ others)) there fs [] l (complete (a ∷ l)) (places-take most (n - 1) there l (tt, f.1)) (refl, refl) in
-      together (given (ltb 0 n) p fixedValue) (λ x. places most (n - 1) p fixedValue >>= λ others. done (x ∷ others)) at es fs a (complete (a ∷ l)) (given_takes (ltb 0 n) at a (tt, f.0))
+      let r = together (places most (n - 1) p fixed_value) (λ others. done (a ∷ others)) there fs [] l (complete (a ∷ l)) (places-take most (n - 1) there l (tt, f.1)) (refl, refl) in
+      together (given (ltb 0 n) p fixed_value) (λ x. places most (n - 1) p fixed_value >>= λ others. done (x ∷ others)) at es fs a (complete (a ∷ l)) (given_takes (ltb 0 n) at a (tt, f.0))
       (rw (append-nil fs) at r)
 
-  pub places_find : (most n at : ℕ) (es : List (Element N)) (l : List A) → Follow (places most n p fixedValue) at es (complete l)
+  pub places_find : (most n at : ℕ) (es : List (Element N)) (l : List A) → Follow (places most n p fixed_value) at es (complete l)
       → (Any l × (places_fit most n hp.fits is_fixed l ≡ true)) × (es ≡ places_elements n hp.elements_of l)
   unfolding places places_fit places_elements
   places_find zero n at es l h = let d = done_only [] l at es h in rw d.1 ((tt, refl), d.0)
   places_find (suc most) n at es l h =
-      let k = apart_complete (given (ltb 0 n) p fixedValue) (λ x. places most (n - 1) p fixedValue >>= λ others. done (x ∷ others)) at es l h in
+      let k = apart_complete (given (ltb 0 n) p fixed_value) (λ x. places most (n - 1) p fixed_value >>= λ others. done (x ∷ others)) at es l h in
       let there = at + sum_of_widths k.first in
       let x = given_finds (ltb 0 n) at k.first k.made k.one in
-      let m = apart_complete (places most (n - 1) p fixedValue) (λ others. done (k.made ∷ others)) there k.second l k.two in
+      let m = apart_complete (places most (n - 1) p fixed_value) (λ others. done (k.made ∷ others)) there k.second l k.two in
       let y = places_find most (n - 1) there m.first m.made m.one in
       let d = done_only (k.made ∷ m.made) l (there + sum_of_widths m.first) m.second m.two in
       make k.made m.made l d.1 x.0.1 y.0.1
@@ -220,7 +220,7 @@ module _ {N A : Type 0} (p : Syntax N A) (fixedValue : A) (is_fixed : A → Bool
           → (Any l × (places_fit (suc most) n hp.fits is_fixed l ≡ true)) × (es ≡ places_elements n hp.elements_of l)
       make a others l e f g q = rw e ((tt, and_both (given_fits (ltb 0 n) hp.fits is_fixed a) (places_fit most (n - 1) hp.fits is_fixed others) f g), q)
 
-  abbrev pub places_spelled : (most n : ℕ) → Spelled (places most n p fixedValue)
+  abbrev pub places_spelled : (most n : ℕ) → Spelled (places most n p fixed_value)
   places_spelled most n = record { elements_of = places_elements n hp.elements_of; fits = places_fit most n hp.fits is_fixed; spelled = λ at. record { takes = places-take most n at; only = places_find most n at } }
 
 -- ---- zero bits behind all of it, from the beginning of the data on

@@ -16,14 +16,14 @@ limited name n k low high = here (λ at. reads name (fixed (unsigned n)) (λ z. 
 
 -- if( b ): a part that is sent, and one fixed value where it is not
 abbrev pub given : {N A : Type 0} → Bool → Syntax N A → A → Syntax N A
-given b p fixedValue = cond b p (done fixedValue)
+given b p fixed_value = cond b p (done fixed_value)
 
 -- for( k = 0; k < n; k++ ), into so many places; those that are not sent have one fixed value
 unfoldable pub places : {N A : Type 0} → ℕ → ℕ → Syntax N A → A → Syntax N (List A)
-places zero n p fixedValue = done []
-places (suc most) n p fixedValue = do
-  a ← given (ltb 0 n) p fixedValue
-  others ← places most (n - 1) p fixedValue
+places zero n p fixed_value = done []
+places (suc most) n p fixed_value = do
+  a ← given (ltb 0 n) p fixed_value
+  others ← places most (n - 1) p fixed_value
   done (a ∷ others)
 
 -- and zero bits behind it to the next byte boundary

@@ -25,7 +25,7 @@ use Rattle.tree.proofs.Spells.{ranged_only, done_only}
 use Rattle.tree.proofs.Steps.{takes_what_is_there}
 use Rattle.tree.proofs.Wrapper.{wrapper_end, wrapper_byte_lem}
 use Rattle.output.specs.declared.Written.{Written}
-use Rattle.output.specs.Output.{written, fits, writtenAs, bufferAs}
+use Rattle.output.specs.Output.{written, fits, written_as, buffer_as}
 use Rattle.record.specs.Name.{Name, «wrapper»}
 use Rattle.syntax.specs.Data.{bare_data}
 use Rattle.syntax.specs.Wrapper.{wrapper_bytes, wrapped_data, inside_wrapper, told_at}
@@ -207,9 +207,9 @@ module _ (bytes : List ℕ) (good : Bool) (out : List ℕ) (h : 8 ≤ length out
       go true e = le-leb (length (wrapper_bytes ++ bytes)) (length out) (omega (arith, leb-true (length bytes) (length (drop 8 out)) e, length-drop 8 out, length-append wrapper_bytes bytes))
       go false e = lt-leb (length (wrapper_bytes ++ bytes)) (length out) (omega (arith, leb-false (length bytes) (length (drop 8 out)) e, length-drop 8 out, length-append wrapper_bytes bytes))
 
-  module _ (w : Written) (e : w ≡ writtenAs bytes good (drop 8 out)) where
+  module _ (w : Written) (e : w ≡ written_as bytes good (drop 8 out)) where
     -- where the data is refused, so is the whole, and no byte changes
-    pub refused_behind : (w.result ≡ 0 → ⊥) → (w ≡ writtenAs (wrapper_bytes ++ bytes) good out) × (bufferAs bytes good (drop 8 out) ≡ drop 8 out) × (out ≡ bufferAs (wrapper_bytes ++ bytes) good out)
+    pub refused_behind : (w.result ≡ 0 → ⊥) → (w ≡ written_as (wrapper_bytes ++ bytes) good out) × (buffer_as bytes good (drop 8 out) ≡ drop 8 out) × (out ≡ buffer_as (wrapper_bytes ++ bytes) good out)
     refused_behind n = rw whole_fits (go good (fits bytes (drop 8 out)) e)
       where
         go : (t u : Bool) → w ≡ cond t (cond u (written 0 (length bytes)) (written unfit_output 0)) (written not_valid 0)
@@ -221,7 +221,7 @@ module _ (bytes : List ℕ) (good : Bool) (out : List ℕ) (h : 8 ≤ length out
         go false u f = (f, refl, refl)
 
     -- where it is written, the wrapper before it makes the whole
-    pub written_behind : w.result ≡ 0 → (written 0 (w.bytes + 8) ≡ writtenAs (wrapper_bytes ++ bytes) good out) × (wrapper_bytes ++ bufferAs bytes good (drop 8 out) ≡ bufferAs (wrapper_bytes ++ bytes) good out)
+    pub written_behind : w.result ≡ 0 → (written 0 (w.bytes + 8) ≡ written_as (wrapper_bytes ++ bytes) good out) × (wrapper_bytes ++ buffer_as bytes good (drop 8 out) ≡ buffer_as (wrapper_bytes ++ bytes) good out)
     written_behind n = rw whole_fits (go good (fits bytes (drop 8 out)) e)
       where
         go : (t u : Bool) → w ≡ cond t (cond u (written 0 (length bytes)) (written unfit_output 0)) (written not_valid 0)
@@ -237,7 +237,7 @@ module _ (bytes : List ℕ) (good : Bool) (out : List ℕ) (h : 8 ≤ length out
 
 -- without room for the wrapper
 pub no_room : (bytes : List ℕ) (good : Bool) (out : List ℕ) → length out < 8
-    → (without_room good ≡ writtenAs (wrapper_bytes ++ bytes) good out) × (out ≡ bufferAs (wrapper_bytes ++ bytes) good out)
+    → (without_room good ≡ written_as (wrapper_bytes ++ bytes) good out) × (out ≡ buffer_as (wrapper_bytes ++ bytes) good out)
 no_room bytes good out h = rw (lt-leb (length (wrapper_bytes ++ bytes)) (length out) (omega (arith, length-append wrapper_bytes bytes))) (go good)
   where
     go : (t : Bool) → (without_room t ≡ cond t (written unfit_output 0) (written not_valid 0))

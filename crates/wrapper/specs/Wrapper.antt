@@ -4,7 +4,7 @@ use Rattle.refusals.specs.Refusals.{unfit_output, not_valid}
 use Rattle.tree.specs.Bits.{bits_of}
 use Rattle.tree.specs.Reading.{number_in, Out, ok, no}
 use Rattle.output.specs.declared.Written.{Written}
-use Rattle.output.specs.Output.{written, writtenAs, bufferAs}
+use Rattle.output.specs.Output.{written, written_as, buffer_as}
 use Rattle.record.specs.declared.Record.{Record}
 use Rattle.record.specs.Name.{Name}
 use Rattle.valid.specs.Valid.{valid}
@@ -27,10 +27,10 @@ read_wrapped s = reading_of (wrapped_data (bits_of s))
 
 -- write_wrapped: the answer, and the buffer afterwards
 abbrev pub write_wrapped : Record → List ℕ → Written
-write_wrapped r out = writtenAs (wrapped_payload r) (valid r) out
+write_wrapped r out = written_as (wrapped_payload r) (valid r) out
 
 abbrev pub wrapped_buffer : Record → List ℕ → List ℕ
-wrapped_buffer r out = bufferAs (wrapped_payload r) (valid r) out
+wrapped_buffer r out = buffer_as (wrapped_payload r) (valid r) out
 
 -- the wrapper's bytes are there, or why not, told by the byte's offset
 abbrev pub wrapper_of : Out Name (Unit {0}) → Wrapper

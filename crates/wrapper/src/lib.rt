@@ -157,7 +157,8 @@ pub fn write_wrapped(r: Record, out: &mut [u8]) -> Written
         return without_room(valid::is_valid(r));
     }
     let data = writer::write_data(r, &mut out[8..]);
-    if data.result != 0 {
+    let refused = data.result != 0;
+    if refused {
         return data;
     }
     put_wrapper(out);

@@ -3,17 +3,17 @@ use Rattle.std.specs.Prelude.{ℕ, List, [], ◌++◌, Bool, cond, ◌&&◌, leb
 use Rattle.tree.specs.Bits.{bit, code}
 use Rattle.tree.specs.Codes.{ue_code}
 use Rattle.output.specs.declared.Written.{Written}
-use Rattle.output.specs.Output.{writtenAs, bufferAs}
+use Rattle.output.specs.Output.{written_as, buffer_as}
 use Rattle.record.specs.declared.Record.{Record}
 use Rattle.valid.specs.Valid.{valid}
 use Rattle.syntax.specs.Element.{payload}
 
 -- write_data: the answer, and the buffer afterwards
 abbrev pub write_bare : Record → List ℕ → Written
-write_bare r out = writtenAs (payload r) (valid r) out
+write_bare r out = written_as (payload r) (valid r) out
 
 abbrev pub bare_buffer : Record → List ℕ → List ℕ
-bare_buffer r out = bufferAs (payload r) (valid r) out
+bare_buffer r out = buffer_as (payload r) (valid r) out
 
 -- metadata_refresh_flag, and if it is 1, num_ext_blocks
 abbrev pub flag_code : Bool → ℕ → List Bool

@@ -39,8 +39,8 @@ read_code-requires c =
 pub returns-in-Refused : goal.returns-in-Refused
 returns-in-Refused c = rw c.in-Refused.is at c.read_lead.ensures
 
-pub returns-then-most-zeros : goal.returns-then-most-zeros
-returns-then-most-zeros c =
+pub returns-then-too_many : goal.returns-then-too_many
+returns-then-too_many c =
     let led : Leads c.args.s.now c.args.at c.args.most (IsLead c.in-Is.lead c.in-Is.have c.in-Is.next) =
     rw c.in-Is.is at c.read_lead.ensures in
     let one : value (take (c.zeros_before-zeros.result + 1) (drop c.args.at (bits_of c.args.s.now))) ≡ 1 =
@@ -60,5 +60,5 @@ returns-then-most-zeros c =
     let z : value (take k b) ≡ 0 = sym (front b (k + 1) k (omega arith) (omega (arith, length_rest a.s.now a.at, l, d.zeros_before-zeros.ensures.0))) ∙ rw (one, h) in
     c.refuse.ensures ∙ sym (ap number_of (ue_overlong a.most a.at b k (omega arith) (omega (arith, length_rest a.s.now a.at, l, d.zeros_before-zeros.ensures.0)) z))
 
-pub returns-else-most-zeros : goal.returns-else-most-zeros
-returns-else-most-zeros c = c.read_code.ensures c.args.most (omega arith)
+pub returns-else-too_many : goal.returns-else-too_many
+returns-else-too_many c = c.read_code.ensures c.args.most (omega arith)

@@ -5,19 +5,19 @@ use Rattle.tree.specs.Bits.{bits_of}
 use Rattle.block.proofs.Laws.{body-length, body_is, body_too_long, body-reserved}
 use Rattle.block.proofs.read_body.Goals as goal
 
-pub returns-then-size-bytes : goal.returns-then-size-bytes
-returns-then-size-bytes c =
+pub returns-then-fits : goal.returns-then-fits
+returns-then-fits c =
     let b = c in
     let a = b.args in
     c.read_content.ensures
-    ∙ body_is a.start a.size a.level a.at (drop a.at (bits_of a.s.now)) (sym b.is_known-known.ensures ∙ c.if-known.true) (c.if-size-bytes.true ∙ b.bytes_of-bytes.ensures)
+    ∙ body_is a.start a.size a.level a.at (drop a.at (bits_of a.s.now)) (sym b.is_known-known.ensures ∙ c.if-known.true) (c.if-fits.true ∙ b.bytes_of-bytes.ensures)
 
-pub returns-else-size-bytes : goal.returns-else-size-bytes
-returns-else-size-bytes c =
+pub returns-else-fits : goal.returns-else-fits
+returns-else-fits c =
     let b = c in
     let a = b.args in
     c.refuse.ensures
-    ∙ body-length a.start a.size a.level a.at (drop a.at (bits_of a.s.now)) (sym b.is_known-known.ensures ∙ c.if-known.true) (λ e. c.if-size-bytes.false (e ∙ sym b.bytes_of-bytes.ensures))
+    ∙ body-length a.start a.size a.level a.at (drop a.at (bits_of a.s.now)) (sym b.is_known-known.ensures ∙ c.if-known.true) (λ e. c.if-fits.false (e ∙ sym b.bytes_of-bytes.ensures))
 
 pub returns-then-size-le-MOST_RESERVED : goal.returns-then-size-le-MOST_RESERVED
 returns-then-size-le-MOST_RESERVED c =

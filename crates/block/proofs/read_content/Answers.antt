@@ -17,37 +17,37 @@ use Rattle.block.proofs.read_content.Goals as goal
 
 pub overflow_add-at : goal.overflow_add-at
 overflow_add-at c =
-    let fieldsRead : Out Name Block =
+    let fields_read : Out Name Block =
     mapped (block_of c.args.level) (read (row (fields_of c.args.level)) c.args.at (drop c.args.at (bits_of c.args.s.now))) in
-    let first : (fieldsRead ≡ ok c.in-Is.b c.in-Is.n) × (c.in-Is.n ≤ content_bits) =
+    let first : (fields_read ≡ ok c.in-Is.b c.in-Is.n) × (c.in-Is.n ≤ content_bits) =
     let s = c in
     let b = c.in-Is.b in
     let n = c.in-Is.n in
-    let e = step_ok (fieldsRead) b n (sym c.in-Is.is ∙ c.fields_of.ensures) in
+    let e = step_ok (fields_read) b n (sym c.in-Is.is ∙ c.fields_of.ensures) in
     (e, few_fields s.args.level s.args.at (drop s.args.at (bits_of s.args.s.now)) b n e) in
     let f = first in omega (arith, f.1)
 
 pub after_fields-requires : goal.after_fields-requires
 after_fields-requires c =
-    let fieldsRead : Out Name Block =
+    let fields_read : Out Name Block =
     mapped (block_of c.args.level) (read (row (fields_of c.args.level)) c.args.at (drop c.args.at (bits_of c.args.s.now))) in
-    let first : (fieldsRead ≡ ok c.in-Is.b c.in-Is.n) × (c.in-Is.n ≤ content_bits) =
+    let first : (fields_read ≡ ok c.in-Is.b c.in-Is.n) × (c.in-Is.n ≤ content_bits) =
     let s = c in
     let b = c.in-Is.b in
     let n = c.in-Is.n in
-    let e = step_ok (fieldsRead) b n (sym c.in-Is.is ∙ c.fields_of.ensures) in
+    let e = step_ok (fields_read) b n (sym c.in-Is.is ∙ c.fields_of.ensures) in
     (e, few_fields s.args.level s.args.at (drop s.args.at (bits_of s.args.s.now)) b n e) in
     let f = first in let s = c in (s.requires.0, omega (arith, f.1))
 
 pub behind-requires : goal.behind-requires
 behind-requires c =
-    let fieldsRead : Out Name Block =
+    let fields_read : Out Name Block =
     mapped (block_of c.args.level) (read (row (fields_of c.args.level)) c.args.at (drop c.args.at (bits_of c.args.s.now))) in
-    let first : (fieldsRead ≡ ok c.in-Is.b c.in-Is.n) × (c.in-Is.n ≤ content_bits) =
+    let first : (fields_read ≡ ok c.in-Is.b c.in-Is.n) × (c.in-Is.n ≤ content_bits) =
     let s = c in
     let b = c.in-Is.b in
     let n = c.in-Is.n in
-    let e = step_ok (fieldsRead) b n (sym c.in-Is.is ∙ c.fields_of.ensures) in
+    let e = step_ok (fields_read) b n (sym c.in-Is.is ∙ c.fields_of.ensures) in
     (e, few_fields s.args.level s.args.at (drop s.args.at (bits_of s.args.s.now)) b n e) in
     let d = c in
     let f = first in
@@ -58,7 +58,7 @@ behind-requires c =
 
 pub returns-in-Refused : goal.returns-in-Refused
 returns-in-Refused c =
-    let fieldsRead : Out Name Block =
+    let fields_read : Out Name Block =
     mapped (block_of c.args.level) (read (row (fields_of c.args.level)) c.args.at (drop c.args.at (bits_of c.args.s.now))) in
     let s = c in
     let B = bits_of s.args.s.now in
@@ -66,21 +66,21 @@ returns-in-Refused c =
     let k = c.in-Refused.number in
     let x = c.in-Refused.element in
     let w = c.in-Refused.offset in
-    first_no (content_from s.args.start s.args.level) (fieldsRead) (after_fields s.args.start s.args.level) s.args.at B (read_fields s.args.start s.args.level s.args.at l) k x w (step_no (fieldsRead) k x w (sym c.in-Refused.is ∙ c.fields_of.ensures))
+    first_no (content_from s.args.start s.args.level) (fields_read) (after_fields s.args.start s.args.level) s.args.at B (read_fields s.args.start s.args.level s.args.at l) k x w (step_no (fields_read) k x w (sym c.in-Refused.is ∙ c.fields_of.ensures))
 
 pub returns-in-Is : goal.returns-in-Is
 returns-in-Is c =
-    let fieldsRead : Out Name Block =
+    let fields_read : Out Name Block =
     mapped (block_of c.args.level) (read (row (fields_of c.args.level)) c.args.at (drop c.args.at (bits_of c.args.s.now))) in
-    let first : (fieldsRead ≡ ok c.in-Is.b c.in-Is.n) × (c.in-Is.n ≤ content_bits) =
+    let first : (fields_read ≡ ok c.in-Is.b c.in-Is.n) × (c.in-Is.n ≤ content_bits) =
     let s = c in
     let b = c.in-Is.b in
     let n = c.in-Is.n in
-    let e = step_ok (fieldsRead) b n (sym c.in-Is.is ∙ c.fields_of.ensures) in
+    let e = step_ok (fields_read) b n (sym c.in-Is.is ∙ c.fields_of.ensures) in
     (e, few_fields s.args.level s.args.at (drop s.args.at (bits_of s.args.s.now)) b n e) in
     let d = c in
     let s = d in
     let a = s.args in
     let B = bits_of a.s.now in
     c.behind.ensures ∙ ap (part_behind d.in-Is.n) c.after_fields.ensures
-    ∙ second_on (content_from a.start a.level) (fieldsRead) (after_fields a.start a.level) a.at B (read_fields a.start a.level a.at (drop a.at B)) d.in-Is.b d.in-Is.n (first).0
+    ∙ second_on (content_from a.start a.level) (fields_read) (after_fields a.start a.level) a.at B (read_fields a.start a.level a.at (drop a.at B)) d.in-Is.b d.in-Is.n (first).0

@@ -11,23 +11,23 @@ pub put_accepted-requires : goal.put_accepted-requires
 put_accepted-requires c =
     let s = c in
     let q = s.args.q in
-    (subst (λ (t : List ℕ). RoomForText s.args.out.now 0 t) (accepted_text q c.if-q-eq0.true) s.requires.0, accepted_few q c.if-q-eq0.true s.requires.1)
+    (subst (λ (t : List ℕ). RoomForText s.args.out.now 0 t) (accepted_text q c.if-accepted.true) s.requires.0, accepted_few q c.if-accepted.true s.requires.1)
 
 pub put_line-requires : goal.put_line-requires
 unfolding ascii
 put_line-requires c =
     let s = c in
-    subst (λ (t : List ℕ). RoomForText s.args.out.now 0 t) (refused_text s.args.q c.if-q-eq0.false) s.requires.0
+    subst (λ (t : List ℕ). RoomForText s.args.out.now 0 t) (refused_text s.args.q c.if-accepted.false) s.requires.0
 
-pub returns-then-q-eq0 : goal.returns-then-q-eq0
-returns-then-q-eq0 c =
+pub returns-then-accepted : goal.returns-then-accepted
+returns-then-accepted c =
     let s = c in
     let put = c.put_accepted in
-    subst (λ (t : List ℕ). Typed s.args.out.now 0 t put.new.out put.result) (sym (accepted_text s.args.q c.if-q-eq0.true)) put.ensures
+    subst (λ (t : List ℕ). Typed s.args.out.now 0 t put.new.out put.result) (sym (accepted_text s.args.q c.if-accepted.true)) put.ensures
 
-pub returns-else-q-eq0 : goal.returns-else-q-eq0
+pub returns-else-accepted : goal.returns-else-accepted
 unfolding ascii
-returns-else-q-eq0 c =
+returns-else-accepted c =
     let s = c in
     let put = c.put_line in
-    subst (λ (t : List ℕ). Typed s.args.out.now 0 t put.new.out put.result) (sym (refused_text s.args.q c.if-q-eq0.false)) put.ensures
+    subst (λ (t : List ℕ). Typed s.args.out.now 0 t put.new.out put.result) (sym (refused_text s.args.q c.if-accepted.false)) put.ensures

@@ -11,11 +11,11 @@ returns-then-first-kind c =
     let a = c.args in
     (note_kept a.s.now a.first a.kind a.start a.size c.if-first-kind.true, c.requires.0)
 
-pub returns-then-size-lt-WRAPPER_BYTES : goal.returns-then-size-lt-WRAPPER_BYTES
-returns-then-size-lt-WRAPPER_BYTES c =
+pub returns-then-short : goal.returns-then-short
+returns-then-short c =
     let s = c in
     let a = s.args in
-    (note_short a.s.now a.first a.kind a.start a.size c.if-first-kind.false c.if-size-lt-WRAPPER_BYTES.true, s.requires.0)
+    (note_short a.s.now a.first a.kind a.start a.size c.if-first-kind.false c.if-short.true, s.requires.0)
 
 pub returns-then-has_wrapper : goal.returns-then-has_wrapper
 returns-then-has_wrapper c =

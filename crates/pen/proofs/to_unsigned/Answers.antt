@@ -6,22 +6,22 @@ use mir.Syntax.{w32, w64}
 use Rattle.pen.proofs.to_unsigned.Goals as goal
 
 pub overflow_cast-result : goal.overflow_cast-result
-overflow_cast-result c = let s = c in (unsigned_low s.args.n s.args.v s.ranges.v c.if-v-ge0.true).0
+overflow_cast-result c = let s = c in (unsigned_low s.args.n s.args.v s.ranges.v c.if-plain.true).0
 
-pub overflow_cast-result-else-v-ge0 : goal.overflow_cast-result-else-v-ge0
-overflow_cast-result-else-v-ge0 c = power_fits c.args.n c.requires.1
+pub overflow_cast-result-else-plain : goal.overflow_cast-result-else-plain
+overflow_cast-result-else-plain c = power_fits c.args.n c.requires.1
 
-pub overflow_cast-result-else-v-ge0-2 : goal.overflow_cast-result-else-v-ge0-2
-overflow_cast-result-else-v-ge0-2 c = let s = c in (wider w32 w64 s.args.v s.ranges.v (omega arith)).0
+pub overflow_cast-result-else-plain-2 : goal.overflow_cast-result-else-plain-2
+overflow_cast-result-else-plain-2 c = let s = c in (wider w32 w64 s.args.v s.ranges.v (omega arith)).0
 
 pub overflow_add-result : goal.overflow_add-result
-overflow_add-result c = let s = c in sum_fits s.args.n s.args.v s.ranges.v s.requires.0 s.requires.1 s.requires.2 c.if-v-ge0.false
+overflow_add-result c = let s = c in sum_fits s.args.n s.args.v s.ranges.v s.requires.0 s.requires.1 s.requires.2 c.if-plain.false
 
-pub overflow_cast-result-else-v-ge0-3 : goal.overflow_cast-result-else-v-ge0-3
-overflow_cast-result-else-v-ge0-3 c = let s = c in unsigned_fits s.args.n s.args.v s.ranges.v s.requires.0 s.requires.1 s.requires.2 c.if-v-ge0.false
+pub overflow_cast-result-else-plain-3 : goal.overflow_cast-result-else-plain-3
+overflow_cast-result-else-plain-3 c = let s = c in unsigned_fits s.args.n s.args.v s.ranges.v s.requires.0 s.requires.1 s.requires.2 c.if-plain.false
 
-pub returns-then-v-ge0 : goal.returns-then-v-ge0
-returns-then-v-ge0 c = let s = c in (unsigned_low s.args.n s.args.v s.ranges.v c.if-v-ge0.true).1
+pub returns-then-plain : goal.returns-then-plain
+returns-then-plain c = let s = c in (unsigned_low s.args.n s.args.v s.ranges.v c.if-plain.true).1
 
-pub returns-else-v-ge0 : goal.returns-else-v-ge0
-returns-else-v-ge0 c = let s = c in unsigned_is s.args.n s.args.v s.ranges.v s.requires.0 s.requires.1 s.requires.2 c.if-v-ge0.false
+pub returns-else-plain : goal.returns-else-plain
+returns-else-plain c = let s = c in unsigned_is s.args.n s.args.v s.ranges.v s.requires.0 s.requires.1 s.requires.2 c.if-plain.false
