@@ -35,7 +35,7 @@ extern "C" {
  *   stack, bytes
  *   pim_read_bare       1600
  *   pim_read_wrapped    1984
- *   pim_why_wrapped     ?
+ *   pim_why_wrapped     not measured
  *   pim_write_bare      2048
  *   pim_write_wrapped   2048
  *   pim_read_unit       6208

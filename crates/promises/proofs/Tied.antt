@@ -129,7 +129,7 @@ write_listing_asks_nothing κs a = tt
 pub write_reason_asks_nothing : (κs : Lfts 1) (a : Dens κs write-reason.ps) → write-reason-contract.Pre κs a
 write_reason_asks_nothing κs a = tt
 
--- ---- tracks, whose functions are walks by hand: their clauses
+-- ---- tracks: the clauses of their contracts, in the logic
 
 -- a caller has a ghost value at which the clauses ask nothing
 abbrev AsksNothing : {M : Type 1} (𝓤 : Ura M) (T : Ended) → Clauses 𝓤 T → Type 1
