@@ -30,12 +30,12 @@ extern "C" {
 
 /*
  * What a call takes of the stack, at most, its return address with it. Measured, not proved (docs/BENCH.md), of the optimised
- * build for x86-64 by an older kit, rattle-kit-5b, and rounded up to the next 64.
+ * build for x86-64 by an older kit, rattle-kit-5b, and rounded up to the next 64; ? was not measured.
  *
  *   stack, bytes
  *   pim_read_bare       1600
  *   pim_read_wrapped    1984
- *   pim_why_wrapped     not measured
+ *   pim_why_wrapped     ?
  *   pim_write_bare      2048
  *   pim_write_wrapped   2048
  *   pim_read_unit       6208
