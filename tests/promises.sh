@@ -55,7 +55,7 @@ for heading, cell in cells:
         if not place:
             paths = list(texts)
         elif not file:
-            paths = [f'crates/{crate}/src/lib.rt']
+            paths = [path for path in texts if path.startswith(f'crates/{crate}/src/')]
         elif file == 'specs':
             paths = [path for path in texts if path.startswith(f'crates/{crate}/specs/')]
         else:
@@ -69,7 +69,7 @@ for heading, cell in cells:
 
 # ---- public functions
 listed = open('docs/PROMISES.md').read().partition('## Every public function')[2]
-for path in sorted(glob.glob('crates/*/src/lib.rt')):
+for path in sorted(set(glob.glob('crates/*/src/*.rt')) - set(glob.glob('crates/*/src/main.rt'))):
     crate = path.split('/')[1]
     laws = texts.get(f'crates/{crate}/proofs/OneAnswer.antt', '')
     for name in re.findall(r'pub (?:extern "C" )?fn (\w+)', texts[path]):

@@ -51,7 +51,7 @@ counts['numbers'] = len(rows)
 
 # in the definitions, in the code and for C
 defined = {int(n): name for name, n in re.findall(r'^(\w+) = (\d+)$', text_of('crates/refusals/specs/Refusals.antt'), re.M)}
-coded = {int(n): name for name, n in re.findall(r'^pub const (\w+): u8 = (\d+);$', text_of('crates/refusals/src/lib.rt'), re.M)}
+coded = {int(n): name for name, n in re.findall(r'^    (\w+) = (\d+),$', text_of('crates/refusals/src/lib.rt'), re.M)}
 enum = {int(n): name for name, n in re.findall(r'^ +(PIM_\w+) = (\d+)', header, re.M) if int(n) > 0}
 gone = {number for number, row in rows.items() if row[1].startswith('no longer occurs')}
 for where, its, those in (('include/pimlasut.h', enum, set(rows)), ('crates/refusals/src', coded, set(rows) - gone),
@@ -68,7 +68,7 @@ for number, (name, _, _) in rows.items():
         faults.append(f'docs/REFERENCE.md: {number} is {name} there, and {coded.get(number, enum.get(number))} in the code')
 
 # who gives them: functions that others can call, then programs
-code = {path: text_of(path) for path in glob.glob('crates/*/src/lib.rt')}
+code = {path: text_of(path) for path in set(glob.glob('crates/*/src/*.rt')) - set(glob.glob('crates/*/src/main.rt'))}
 functions = {name for source in code.values() for name in re.findall(r'\bpub (?:extern "C" )?fn (\w+)', source)}
 for_c = set(re.findall(r'\bpub extern "C" fn (\w+)', code['crates/pimlasut/src/lib.rt']))
 programs = {path.split('/')[1] for path in glob.glob('crates/*/src/main.rt')}

@@ -1,4 +1,3 @@
-pub mod Casts
 pub mod Signed
 pub mod Reading
 mod Zeros

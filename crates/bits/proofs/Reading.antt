@@ -12,43 +12,52 @@ use lib.Pow.{pow_pos}
 use lib.Seq.{drop-drop}
 use borrow.Author.Tests.{le-ltb}
 use Rattle.refusals.specs.Refusals.{not_zero}
+use Rattle.refusals.specs.Numbered.{refusal_of, number_of as refusal_number}
 use Rattle.tree.specs.Bits.{code, bits_of, value}
-use Rattle.tree.specs.Reading.{Fault, number_in, offset_in, element_in, Out, ok, no, widened, mapped, cut_off, overlong, breaks, u, zeros_then_one, ue}
+use Rattle.tree.specs.Reading.{Rule, Fault, number_in, element_in, Out, ok, no, widened, mapped, cut_off, overlong, breaks, u, zeros_then_one, ue, and_then}
 use Rattle.tree.specs.Coding.{unsigned, variable, fixed, most_zeros}
 use Rattle.tree.specs.Syntax.{range_rule, read, zero_bits}
+use Rattle.tree.specs.Meaning.{Element, Means, Breaks}
 use Rattle.tree.specs.Renamed.{renamed}
 use Rattle.tree.proofs.Bits.{length_bits, code-value, code-zero}
+use Rattle.tree.proofs.Meaning.{every_answer_is_true}
+use Rattle.tree.proofs.Breaks.{breaks_zeros}
 use Rattle.tree.proofs.Elements.{u_ok, u_short, zeros_one, length_zeros_one, codes_zeros_one, zero_more}
 use Rattle.tree.proofs.Renamed.{renamed-u, renamed-ue}
 use Rattle.tree.proofs.Names.{coded_named, fault_is_named, names_zeros}
 use Rattle.tree.proofs.Steps as steps
 use Rattle.window.specs.Bytes.{bytes_number}
 use Rattle.window.proofs.Laws.{joined, front, number_one, byte_is_bits, bits_in_bytes}
+use Rattle.std.specs.Prelude.{Result, Ok, Err, cond, leb, ltb}
 use Rattle.bits.specs.declared.Number.{Number}
-use Rattle.bits.specs.declared.Number.TheVariants.{Is, Refused}
-use Rattle.bits.specs.Answer.{nameless, number_of, span_of}
+use Rattle.bits.specs.declared.Unread.{Unread}
+use Rattle.bits.specs.Answer.{nameless, unread_as, read_as, number_of, span_of}
 
 -- what an answer says of the reading that it is of
-pub is_ok : {N : Type 0} (o : Out N ℕ) (v n : ℕ) → Is v n ≡ number_of o → o ≡ ok v n
-is_ok (ok a m) v n e = cc
+pub is_ok : {N : Type 0} (o : Out N ℕ) (v n : ℕ) → Ok (read_as v n) ≡ number_of o → o ≡ ok v n
+is_ok (ok a m) v n e =
+    let q : read_as v n ≡ read_as a m = cc in
+    let x : v ≡ a = ap (λ (r : Number). r.value) q in
+    let y : n ≡ m = ap (λ (r : Number). r.width) q in
+    rw (x, y)
 is_ok (no f) v n e = let z : ◌≡◌ {A = ℕ} 0 1 = cc in absurd (omega arith)
 
--- a fault with that number at that offset
-abbrev pub Told : {N A : Type 0} → Out N A → ℕ → ℕ → Type 0
-Told {N} o k at = (f : Fault N) × (o ≡ no f) × (k ≡ number_in f) × (at ≡ offset_in f)
+-- a fault, by what is told of it
+abbrev pub Told : {N A : Type 0} → Out N A → Unread → Type 0
+Told {N} o u = (f : Fault N) × (o ≡ no f) × (u ≡ unread_as f)
 
-pub is_no : {N : Type 0} (o : Out N ℕ) (k at : ℕ) → Refused k at ≡ number_of o → Told o k at
-is_no (ok a m) k at e = let z : ◌≡◌ {A = ℕ} 0 1 = cc in absurd (omega arith)
-is_no (no f) k at e = (f, refl, cc, cc)
+pub is_no : {N : Type 0} (o : Out N ℕ) (u : Unread) → Err u ≡ number_of o → Told o u
+is_no (ok a m) u e = let z : ◌≡◌ {A = ℕ} 0 1 = cc in absurd (omega arith)
+is_no (no f) u e = (f, refl, cc)
 
 -- the same of zero bits
-pub spans_ok : {N : Type 0} (o : Out N (Unit {0})) (v n : ℕ) → Is v n ≡ span_of o → o ≡ ok tt n
-spans_ok (ok a m) v n e = let x : n ≡ m = cc in rw x
+pub spans_ok : {N : Type 0} (o : Out N (Unit {0})) (v n : ℕ) → Ok (read_as v n) ≡ span_of o → o ≡ ok tt n
+spans_ok (ok a m) v n e = let q : read_as v n ≡ read_as 0 m = cc in let x : n ≡ m = ap (λ (r : Number). r.width) q in rw x
 spans_ok (no f) v n e = let z : ◌≡◌ {A = ℕ} 0 1 = cc in absurd (omega arith)
 
-pub spans_no : {N : Type 0} (o : Out N (Unit {0})) (k at : ℕ) → Refused k at ≡ span_of o → Told o k at
-spans_no (ok a m) k at e = let z : ◌≡◌ {A = ℕ} 0 1 = cc in absurd (omega arith)
-spans_no (no f) k at e = (f, refl, cc, cc)
+pub spans_no : {N : Type 0} (o : Out N (Unit {0})) (u : Unread) → Err u ≡ span_of o → Told o u
+spans_no (ok a m) u e = let z : ◌≡◌ {A = ℕ} 0 1 = cc in absurd (omega arith)
+spans_no (no f) u e = (f, refl, cc)
 
 -- ---- the name makes no difference to an answer
 
@@ -69,9 +78,9 @@ module _ {N : Type 0} (name : N) (at : ℕ) (s : List Bool) where
   named_ue most = sym (ap number_of (renamed-ue called nameless most at s) ∙ answer_renamed called (ue nameless most at s))
 
 -- an answer behind n bits
-abbrev further : ℕ → Number → Number
-further n (Is v m) = Is v (n + m)
-further n (Refused k at) = Refused k at
+abbrev further : ℕ → Result Number Unread → Result Number Unread
+further n (Ok r) = Ok (read_as r.value (n + r.width))
+further n (Err u) = Err u
 
 span_widened : {N : Type 0} (n : ℕ) (o : Out N (Unit {0})) → span_of (widened n o) ≡ further n (span_of o)
 span_widened n (ok z m) = refl
@@ -88,31 +97,31 @@ named_zeros name (suc n) at (false ∷ s) =
 
 -- ---- a refusal, to who knows the name
 
--- a fault with that number, of that element, at that offset
-abbrev pub ToldOf : {N A : Type 0} → Out N A → ℕ → N → ℕ → Type 0
-ToldOf {N} o k name at = (f : Fault N) × (o ≡ no f) × (k ≡ number_in f) × (name ≡ element_in f) × (at ≡ offset_in f)
+-- a fault of that element, by what is told of it
+abbrev pub ToldOf : {N A : Type 0} → Out N A → N → Unread → Type 0
+ToldOf {N} o name u = (f : Fault N) × (o ≡ no f) × (name ≡ element_in f) × (u ≡ unread_as f)
 
-module _ {N : Type 0} (name : N) (at : ℕ) (s : List Bool) (k w : ℕ) where
+module _ {N : Type 0} (name : N) (at : ℕ) (s : List Bool) (why : Unread) where
   abbrev Own : N → Type 0
   Own n = name ≡ n
 
-  pub refused_u : (n : ℕ) → Refused k w ≡ number_of (u nameless n at s) → ToldOf (u name n at s) k name w
-  refused_u n e = go (is_no (u name n at s) k w (e ∙ named_u name at s n))
+  pub refused_u : (n : ℕ) → Err why ≡ number_of (u nameless n at s) → ToldOf (u name n at s) name why
+  refused_u n e = go (is_no (u name n at s) why (e ∙ named_u name at s n))
     where
-      go : Told (u name n at s) k w → ToldOf (u name n at s) k name w
-      go (f, q, x, y) = (f, q, x, coded_named Own (fixed (unsigned n)) name at s f refl (ap (mapped pos) q), y)
+      go : Told (u name n at s) why → ToldOf (u name n at s) name why
+      go (f, q, x) = (f, q, coded_named Own (fixed (unsigned n)) name at s f refl (ap (mapped pos) q), x)
 
-  pub refused_ue : Refused k w ≡ number_of (ue nameless most_zeros at s) → ToldOf (ue name most_zeros at s) k name w
-  refused_ue e = go (is_no (ue name most_zeros at s) k w (e ∙ named_ue name at s most_zeros))
+  pub refused_ue : Err why ≡ number_of (ue nameless most_zeros at s) → ToldOf (ue name most_zeros at s) name why
+  refused_ue e = go (is_no (ue name most_zeros at s) why (e ∙ named_ue name at s most_zeros))
     where
-      go : Told (ue name most_zeros at s) k w → ToldOf (ue name most_zeros at s) k name w
-      go (f, q, x, y) = (f, q, x, coded_named Own variable name at s f refl (ap (mapped pos) q), y)
+      go : Told (ue name most_zeros at s) why → ToldOf (ue name most_zeros at s) name why
+      go (f, q, x) = (f, q, coded_named Own variable name at s f refl (ap (mapped pos) q), x)
 
-  pub refused_zeros : (n : ℕ) → Refused k w ≡ span_of (read (zero_bits nameless n) at s) → ToldOf (read (zero_bits name n) at s) k name w
-  refused_zeros n e = go (spans_no (read (zero_bits name n) at s) k w (e ∙ named_zeros name n at s))
+  pub refused_zeros : (n : ℕ) → Err why ≡ span_of (read (zero_bits nameless n) at s) → ToldOf (read (zero_bits name n) at s) name why
+  refused_zeros n e = go (spans_no (read (zero_bits name n) at s) why (e ∙ named_zeros name n at s))
     where
-      go : Told (read (zero_bits name n) at s) k w → ToldOf (read (zero_bits name n) at s) k name w
-      go (f, q, x, y) = (f, q, x, fault_is_named Own (zero_bits name n) at s f (names_zeros Own name n refl) q, y)
+      go : Told (read (zero_bits name n) at s) why → ToldOf (read (zero_bits name n) at s) name why
+      go (f, q, x) = (f, q, fault_is_named Own (zero_bits name n) at s f (names_zeros Own name n refl) q, x)
 
 -- ---- bits by the bytes that they lie in
 
@@ -246,3 +255,64 @@ zeros_broken n at k l h j e =
     let z : l ≡ replicate k false ++ (true ∷ drop (k + 1) l) = zeros_and_one l k j e ∙ append_assoc (replicate k false) (true ∷ []) (drop (k + 1) l) in
     ap (read (zero_bits nameless n) at) z ∙ zero_bits_past k n at (true ∷ drop (k + 1) l) (omega arith)
     ∙ rw (d, steps.zeros_one_lem nameless (n - k - 1) (at + k) (drop (k + 1) l)) refl
+
+-- ---- the number of a refusal
+
+-- an answer without a fault, or with one whose number has its own refusal
+abbrev Numbered : {N A : Type 0} → Out N A → Type 0
+Numbered (ok a n) = Unit {0}
+Numbered (no f) = refusal_number (refusal_of (number_in f)) ≡ number_in f
+
+-- one of two such answers is one
+numbered_if : {N A : Type 0} (b : Bool) (o p : Out N A) → Numbered o → Numbered p → Numbered (cond b o p)
+numbered_if true o p x y = x
+numbered_if false o p x y = y
+
+-- such an answer stays one behind bits that are taken already, and with another value
+numbered_behind : {N : Type 0} (n : ℕ) (g : ℕ → ℕ) (o : Out N ℕ) → Numbered o → Numbered (widened n (mapped g o))
+numbered_behind n g (ok a m) x = tt
+numbered_behind n g (no f) x = x
+
+module _ {N : Type 0} (name : N) where
+  -- u(n) can only be cut off
+  u_numbered : (n at : ℕ) (s : List Bool) → Numbered (u name n at s)
+  unfolding u
+  u_numbered n at s = numbered_if (leb n (length s)) (ok (value (take n s)) n) (no (cut_off at name)) tt refl
+
+  -- the zeros of a ue(v) code can be cut off or one too many
+  zeros_numbered : (most at k : ℕ) (s : List Bool) → Numbered (zeros_then_one name most at k s)
+  unfolding zeros_then_one
+  zeros_numbered most at k [] = refl
+  zeros_numbered most at k (true ∷ s) = tt
+  zeros_numbered most at k (false ∷ s) = numbered_if (ltb k most) (zeros_then_one name most at (k + 1) s) (no (overlong at name)) (zeros_numbered most at (k + 1) s) refl
+
+  -- behind them the code is a u(k)
+  ue_numbered : (most at : ℕ) (s : List Bool) → Numbered (ue name most at s)
+  unfolding ue
+  ue_numbered most at s = go (zeros_then_one name most at 0 s) (zeros_numbered most at 0 s)
+    where
+      go : (o : Out N ℕ) → Numbered o → Numbered (and_then o (λ k past t. mapped (λ v. 2 ^ k - 1 + v) (u name k at t)) at s)
+      go (ok k m) x = numbered_behind m (λ v. 2 ^ k - 1 + v) (u name k at (drop m s)) (u_numbered k at (drop m s))
+      go (no f) x = x
+
+  -- a number of n bits is refused by a number that has its own refusal
+  pub u_is_named : (n at : ℕ) (s : List Bool) (f : Fault N) → u name n at s ≡ no f → refusal_number (refusal_of (number_in f)) ≡ number_in f
+  u_is_named n at s f e = rw e at (u_numbered n at s)
+
+  -- so is a ue(v) code
+  pub ue_is_named : (most at : ℕ) (s : List Bool) (f : Fault N) → ue name most at s ≡ no f → refusal_number (refusal_of (number_in f)) ≡ number_in f
+  ue_is_named most at s f e = rw e at (ue_numbered most at s)
+
+  -- and so are zero bits, of which the only rule is that each is zero
+  pub zeros_are_named : (n at : ℕ) (s : List Bool) (f : Fault N) → read (zero_bits name n) at s ≡ no f → refusal_number (refusal_of (number_in f)) ≡ number_in f
+  zeros_are_named n at s (cut_off offset x) e = refl
+  zeros_are_named n at s (overlong offset x) e = refl
+  zeros_are_named n at s (breaks r) e =
+      let m : Means (zero_bits name n) at s (no (breaks r)) = rw e at (every_answer_is_true (zero_bits name n) at s) in
+      rw (each_not_zero at m.0 r m.2) refl
+    where
+      IsNotZero : ℕ → List (Element N) → Rule N → Type 0
+      IsNotZero there es q = q.number ≡ not_zero
+
+      each_not_zero : Breaks IsNotZero (zero_bits name n)
+      each_not_zero = breaks_zeros IsNotZero (λ there es fs q h. h) name (λ there z. refl) n

@@ -6,21 +6,15 @@ use mathlib.Core.Logic.{◌⊎◌, inl, inr}
 use native.Mathlib.Omega.{arith}
 use native.Mathlib.Nat.{mod-lt, mod-eq_of_lt, add-mod_right, lt_of_lt_of_le}
 use borrow.Author.Tests.{le-ltb, ltb-true, ltb-false}
-use lib.Dec.{T, ltb, leb-zero}
-use lib.IntN.{ℤ, pos, negsuc, nat_abs, ◌+ℤ◌, ◌-ℤ◌}
+use lib.Dec.{ltb}
+use lib.IntN.{ℤ, pos, negsuc, ◌-ℤ◌}
 use lib.Pow.{pow_mono, pow_pos}
-use lib.Signed.{le_z, non_neg}
-use mir.Val.{to_z, of_z, Fits, SFits}
+use mir.Val.{to_z, of_z, SFits}
 use mir.ValLaws.{to_z_pos, to_z-of_z}
 use mir.Syntax.{w32, w64}
 use Rattle.tree.specs.Reading.{signed_of}
-use Rattle.tree.specs.Coding.{signed, holds, complement}
 use Rattle.tree.proofs.Elements.{twice_half, sub_below, signed_low, signed_high}
 use Rattle.window.proofs.Laws.{shl_one, shl_some}
-use Rattle.bits.proofs.Casts.{wider, unsigned}
-
-pub power_fits : (n : ℕ) → n ≤ 32 → SFits w64 (pos (1 * 2 ^ n % 18446744073709551616))
-power_fits n h = let p : 2 ^ n ≤ 2 ^ 32 = pow_mono {j = 32} h in rw (shl_one n 64 (omega arith)) (record { sfits = omega arith })
 
 sub_above : (v m : ℕ) → m ≤ v → pos v -ℤ pos m ≡ pos (v - m)
 sub_above v zero h = let e : v + 0 ≡ v - 0 = omega arith in rw e
@@ -109,36 +103,3 @@ module _ (n v : ℕ) (some : 0 < n) (most : n ≤ 32) (held : v < 2 ^ n) where
 
   pub signed_is : to_z w32 (of_z w32 (to_z w64 (of_z w64 difference))) ≡ signed_of n v
   signed_is = to_z-of_z w32 (to_z w64 (of_z w64 difference)) signed_fits ∙ to_z-of_z w64 difference difference_fits ∙ difference_is
-
--- of a number z in 32 bits, with a sign: what its cast to an unsigned number asks and gives
-pub unsigned_low : (n : ℕ) (z : ℤ) → SFits w32 z → le_z (pos 0) (to_z w32 (of_z w32 z)) ≡ true
-    → (T (non_neg (to_z w32 (of_z w32 z))) × Fits w32 (nat_abs (to_z w32 (of_z w32 z)))) × (nat_abs (to_z w32 (of_z w32 z)) ≡ complement n z)
-unsigned_low n z f h = let u = unsigned w32 w32 z f (omega arith) h in (u.0, ap (complement n) u.1)
-
-module _ (n : ℕ) (z : ℤ) (f : SFits w32 z) (some : 0 < n) (most : n ≤ 32) (held : holds (signed n) z ≡ true) (neg : le_z (pos 0) (to_z w32 (of_z w32 z)) ≡ false) where
-  abbrev sum : ℤ
-  sum = to_z w64 (1 * 2 ^ n % 18446744073709551616) +ℤ to_z w64 (of_z w64 (to_z w32 (of_z w32 z)))
-
-  wide : SFits w64 (to_z w32 (of_z w32 z)) × (to_z w64 (of_z w64 (to_z w32 (of_z w32 z))) ≡ z)
-  wide = wider w32 w64 z f (omega arith)
-
-  sum_is : (sum ≡ pos (complement n z)) × (complement n z < 4294967296)
-  sum_is =
-      let p : 2 ^ n ≤ 2 ^ 32 = pow_mono {j = 32} most in
-      rw (shl_one n 64 (omega arith), to_z_pos w64 (2 ^ n) (omega arith), wide.1)
-      (go z held (rw (to_z-of_z w32 z f) at neg) p)
-    where
-      go : (z : ℤ) → holds (signed n) z ≡ true → le_z (pos 0) z ≡ false → 2 ^ n ≤ 2 ^ 32 → (pos (2 ^ n) +ℤ z ≡ pos (complement n z)) × (complement n z < 4294967296)
-      go (pos v) h e p = let l : le_z (pos 0) (pos v) ≡ true = leb-zero v in let z : ◌≡◌ {A = ℕ} 0 1 = cc in absurd (omega arith)
-      go (negsuc v) h e p =
-          let l = ltb-true v (2 ^ n - 2 ^ (n - 1)) h in
-          (rw (le-ltb (2 ^ n) (suc v) (omega (arith, twice_half n some))), omega (arith, pow_pos n))
-
-  pub sum_fits : SFits w64 sum
-  sum_fits = let s = sum_is in rw s.0 (record { sfits = omega (arith, s.1) })
-
-  pub unsigned_fits : T (non_neg (to_z w64 (of_z w64 sum))) × Fits w32 (nat_abs (to_z w64 (of_z w64 sum)))
-  unsigned_fits = let s = sum_is in rw (to_z-of_z w64 sum sum_fits, s.0) (tt, record { fits = s.1 })
-
-  pub unsigned_is : nat_abs (to_z w64 (of_z w64 sum)) ≡ complement n z
-  unsigned_is = let s = sum_is in rw (to_z-of_z w64 sum sum_fits, s.0)

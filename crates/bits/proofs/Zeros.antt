@@ -7,14 +7,14 @@ use native.Mathlib.Nat.{add-zero, mul-one, zero-mul, zero-div, mul-mod_left, lt_
 use lib.ListN.{length, get_or, take, drop}
 use lib.Pow.{pow-lt, shl_exact, shr_lt, shl-shr, shr-shr, mod-pow-add}
 use lib.Seq.{drop-drop}
-use Rattle.refusals.specs.Refusals.{not_zero, past_end}
+use Rattle.std.specs.Prelude.{Ok, Err}
+use Rattle.refusals.specs.declared.Refusal.TheVariants.{NotZero, PastEnd}
 use Rattle.tree.specs.Bits.{bits_of, value}
 use Rattle.tree.specs.Reading.{Out, ok, widened}
 use Rattle.tree.specs.Syntax.{read, zero_bits}
 use Rattle.tree.proofs.Bits.{length_rest}
 use Rattle.window.proofs.Laws.{front, byte_is_bits}
-use Rattle.bits.specs.declared.Number.TheVariants.{Is}
-use Rattle.bits.specs.Answer.{nameless, span_of, refused_number}
+use Rattle.bits.specs.Answer.{nameless, unread, read_as, span_of}
 use Rattle.bits.proofs.Reading.{rest_of_byte, zeros_go_on, zeros_end, zeros_broken, widened_twice, widened_none}
 
 -- the answer for n zero bits from a position on
@@ -82,7 +82,7 @@ module _ (s : List ℕ) (bytes : (i : ℕ) → get_or s i 0 < 256) (at n : ℕ) 
     are_zeros e = sym bits_left ∙ rw e (zero-div (2 ^ (8 - have)))
 
     -- the first one among m bits that are left, behind r zeros of the byte, decides
-    broken : (m r : ℕ) → m ≤ left → m ≤ have → (v / 2 ^ (8 - m) ≡ 0 → ⊥) → r < 8 → v / 2 ^ (8 - (r + 1)) ≡ 1 → refused_number not_zero (here + r) ≡ span_of (answer_for s at n)
+    broken : (m r : ℕ) → m ≤ left → m ≤ have → (v / 2 ^ (8 - m) ≡ 0 → ⊥) → r < 8 → v / 2 ^ (8 - (r + 1)) ≡ 1 → Err (unread NotZero (here + r)) ≡ span_of (answer_for s at n)
     broken m r h k e l q =
         let f = first_within v m r (omega (arith, x.most)) l e q in
         let d : 8 - have + (have - (r + 1)) ≡ 8 - (r + 1) = omega (arith, x.most) in
@@ -91,15 +91,15 @@ module _ (s : List ℕ) (bytes : (i : ℕ) → get_or s i 0 < 256) (at n : ℕ) 
         sym (front (drop here (bits_of s)) have (r + 1) (omega arith) (omega (arith, t, x.ends, x.there))) ∙ ap (λ (y : ℕ). y / 2 ^ (have - (r + 1))) (sym bits_left) ∙ shr-shr v (8 - have) (have - (r + 1)) ∙ rw d q in
         sym (ap span_of (sym x.answer ∙ ap (widened (n - left)) (zeros_broken left here r (drop here (bits_of s)) (omega arith) (omega (arith, t, x.ends, x.there)) one)))
 
-    pub checked_broken : have < left → (v ≡ 0 → ⊥) → (r : ℕ) → r < 8 → v / 2 ^ (8 - (r + 1)) ≡ 1 → refused_number not_zero (here + r) ≡ span_of (answer_for s at n)
+    pub checked_broken : have < left → (v ≡ 0 → ⊥) → (r : ℕ) → r < 8 → v / 2 ^ (8 - (r + 1)) ≡ 1 → Err (unread NotZero (here + r)) ≡ span_of (answer_for s at n)
     checked_broken h e r l q =
         broken have r (omega arith) (omega arith) (λ z. e (x.rest ∙ ap (λ (y : ℕ). y * 2 ^ (8 - have)) (sym bits_left ∙ z) ∙ zero-mul (2 ^ (8 - have)))) l q
 
     -- the input ends behind the byte
-    pub checked_end : have < left → v ≡ 0 → length s ≤ i + 1 → refused_number past_end (8 * (i + 1)) ≡ span_of (answer_for s at n)
+    pub checked_end : have < left → v ≡ 0 → length s ≤ i + 1 → Err (unread PastEnd (8 * (i + 1))) ≡ span_of (answer_for s at n)
     checked_end h e l =
         let d = zeros_end left here (drop here (bits_of s)) have (omega (arith, length_rest s here, x.ends, x.there)) h (are_zeros e) in
-        ap (refused_number past_end) (sym x.ends) ∙ sym (ap span_of (sym x.answer ∙ ap (widened (n - left)) d))
+        ap (λ (w : ℕ). Err (unread PastEnd w)) (sym x.ends) ∙ sym (ap span_of (sym x.answer ∙ ap (widened (n - left)) d))
 
     -- the next byte
     pub checked_more : have < left → v ≡ 0 → i + 1 < length s → Checked s at n (i + 1) 8 (get_or s (i + 1) 0) (left - have)
@@ -130,10 +130,10 @@ module _ (s : List ℕ) (bytes : (i : ℕ) → get_or s i 0 < 256) (at n : ℕ) 
         sym (rw e at (shr-shr v (8 - have) (have - left))) ∙ ap (λ (y : ℕ). y / 2 ^ (have - left)) bits_left
         ∙ front (drop here (bits_of s)) have left h (omega (arith, length_rest s here, x.ends, x.there))
 
-    pub checked_last_broken : left ≤ have → (v / 2 ^ (8 - left) ≡ 0 → ⊥) → (r : ℕ) → r < 8 → v / 2 ^ (8 - (r + 1)) ≡ 1 → refused_number not_zero (here + r) ≡ span_of (answer_for s at n)
+    pub checked_last_broken : left ≤ have → (v / 2 ^ (8 - left) ≡ 0 → ⊥) → (r : ℕ) → r < 8 → v / 2 ^ (8 - (r + 1)) ≡ 1 → Err (unread NotZero (here + r)) ≡ span_of (answer_for s at n)
     checked_last_broken h e r l q = broken left r (omega arith) h e l q
 
-    pub checked_all : left ≤ have → v / 2 ^ (8 - left) ≡ 0 → Is 0 n ≡ span_of (answer_for s at n)
+    pub checked_all : left ≤ have → v / 2 ^ (8 - left) ≡ 0 → Ok (read_as 0 n) ≡ span_of (answer_for s at n)
     unfolding read zero_bits
     checked_all h e =
         let z : left - left ≡ 0 = omega arith in

@@ -1,37 +1,32 @@
 -- What the functions that read a block answer, and the parts of a block's table that some of them read.
-use Rattle.std.specs.Prelude.{ℕ, ◌+◌, cond, ℤ}
-use Rattle.tree.specs.Reading.{number_in, offset_in, element_in, Out, ok, no}
+use Rattle.std.specs.Prelude.{ℕ, ◌+◌, cond, ℤ, Result, Ok, Err}
+use Rattle.tree.specs.Reading.{Out, ok, no}
 use Rattle.tree.specs.Coding.{unsigned, fixed, natural}
 use Rattle.tree.specs.Syntax.{Syntax, done, must, any, row, zero_bits, ◌>>=◌}
-use Rattle.element.specs.declared.Element.{Element}
+use Rattle.element.specs.declared.Refused.{Refused}
 use Rattle.record.specs.declared.Block.{Block}
-use Rattle.record.specs.Name.{Name, element_of, ext_block_level, ext_dm_alignment_zero_bit}
+use Rattle.record.specs.Name.{Name, ext_block_level, ext_dm_alignment_zero_bit}
 use Rattle.record.specs.Level.{known, fields_of, padding}
 use Rattle.syntax.specs.Data.{Item, kept, passed, block_of, length_rule, order_rules, reserved_content}
+use Rattle.syntax.specs.Told.{refused_as}
 use Rattle.block.specs.declared.Part.{Part}
-use Rattle.block.specs.declared.Part.TheVariants.{Kept, Passed, Refused}
+use Rattle.block.specs.declared.Part.TheVariants.{Kept, Passed}
 
 -- of a block that is passed over only the width is told
-abbrev pub part_of : Out Name Item → Part
-part_of (ok (kept b) n) = Kept n b
-part_of (ok (passed l m zs) n) = Passed n
-part_of (no f) = Refused (number_in f) (element_of (element_in f)) (offset_in f)
-
--- a refusal, by its number, its element, and where that begins
-abbrev pub refused_part : ℕ → Element → ℕ → Part
-refused_part n e at = Refused n e at
+abbrev pub part_of : Out Name Item → Result Part Refused
+part_of (ok (kept b) n) = Ok (Kept n b)
+part_of (ok (passed l m zs) n) = Ok (Passed n)
+part_of (no f) = Err (refused_as f)
 
 -- the same, behind n bits that are taken already
 abbrev pub part_behind : ℕ → Part → Part
 part_behind n (Kept width b) = Kept (n + width) b
 part_behind n (Passed width) = Passed (n + width)
-part_behind n (Refused k e at) = Refused k e at
 
 -- how many bits it took
 abbrev pub part_took : Part → ℕ
 part_took (Kept width b) = width
 part_took (Passed width) = width
-part_took (Refused k e at) = 0
 
 -- what follows the fields of a block of level l that began at `start`: its zero bits, then the order of level 1
 abbrev pub after_fields : (start l : ℕ) → Block → Syntax Name Item

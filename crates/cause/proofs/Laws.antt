@@ -1,15 +1,21 @@
 -- What stands from a refusal's offset on shows its cause: row by row of the table of reasons.
-use Prim.Native.Nat.{ℕ, suc, ◌+◌, ◌/◌, ◌^◌, ◌<◌, ◌≤◌}
+use Prim.Native.Nat.{ℕ, zero, suc, ◌+◌, ◌/◌, ◌^◌, ◌<◌, ◌≤◌}
 use mathlib.Core.Path.{◌≡◌, refl, ap, sym, ◌∙◌, subst}
 use mathlib.Core.List.{List, [], ◌∷◌, ◌++◌, append_assoc}
 use mathlib.Core.Bool.{Bool, true, false}
 use mathlib.Core.Logic.{inl, inr}
 use native.Mathlib.Omega.{arith}
-use borrow.Author.Tests.{ltb-true, eqb-false}
-use lib.Dec.{ltb}
+use borrow.Author.Tests.{ltb-true, eqb-false, ne_eqb, lt-leb}
+use lib.Dec.{ltb, leb, eqb}
 use lib.IntN.{ℤ, pos, negsuc}
 use lib.ListN.{length, take, drop, replicate, length-append}
 use lib.Seq.{drop-drop, drop_at}
+use Rattle.std.specs.Prelude.{Ok}
+use Rattle.refusals.specs.Refusals.{too_many_zeros}
+use Rattle.refusals.specs.Numbered.{number_of, refusal_of}
+use Rattle.refusals.specs.declared.Refusal.{Refusal}
+use Rattle.refusals.specs.declared.Refusal.TheVariants.{PastEnd, TooManyZeros, NotZero, BytesRemain}
+use Rattle.refusals.proofs.Numbered.{each_has_its_own_number}
 use Rattle.tree.specs.Bits.{code, value}
 use Rattle.tree.specs.Codes.{ue_code}
 use Rattle.tree.specs.Reading.{Rule, meets, Fault, cut_off, overlong, breaks, number_in, offset_in, element_in, ok, no, ue}
@@ -21,9 +27,10 @@ use Rattle.tree.proofs.Bits.{length-code}
 use Rattle.tree.proofs.Elements.{codes_ue, length-ue, zeros_few}
 use Rattle.tree.proofs.Meaning.{all_bits-append}
 use Rattle.tree.proofs.Held.{AllHeld, follow_held, held_later, behind_elements, bits_first, front_number, front_rest}
-use Rattle.bits.specs.Answer.{nameless}
-use Rattle.element.specs.declared.Element.{Element as Title}
+use Rattle.bits.specs.declared.Number.{Number}
+use Rattle.bits.specs.Answer.{nameless, read_as, number_of as read_number}
 use Rattle.element.specs.declared.Element.TheVariants.{ExtBlockLength, ExtBlockLevel, AvgPq, TargetMaxPq, DmAlignmentZeroBit, ExtDmAlignmentZeroBit}
+use Rattle.element.specs.declared.Refused.{Refused}
 use Rattle.record.specs.declared.Block.{Block}
 use Rattle.record.specs.declared.Block.TheVariants.{Nothing, Level1, Level2, Level5}
 use Rattle.record.specs.Name.{Name, element_of, app_identifier, app_version, num_ext_blocks, ext_block_length, ext_block_level, min_PQ, max_PQ, avg_PQ, target_max_PQ, ext_dm_alignment_zero_bit, «end»}
@@ -31,10 +38,11 @@ use Rattle.record.specs.Level.{level, level_of, fields_of, values_of, padding}
 use Rattle.syntax.specs.Data.{lengths, bare_data, ST2094-10_data}
 use Rattle.syntax.specs.Element.{variable_element, fixed_element, block_elements}
 use Rattle.syntax.specs.Reason.{About, identifier, version, count, alignment_bit, block_alignment_bit, other_length, average, surplus, target, Reason}
-use Rattle.syntax.specs.Told.{ToldAs}
+use Rattle.syntax.specs.Told.{Tells}
 use Rattle.syntax.proofs.Reasons.{the_reason_is_true}
+use Rattle.syntax.proofs.Told.{each_is_named}
 use Rattle.cause.specs.Cause.{range, other, cause_by, cause_of, cause_in}
-use Rattle.cause.specs.Shown.{number_behind, Shown}
+use Rattle.cause.specs.Shown.{number_behind, ShownCode, Shown}
 
 -- a u(w) of the number v, and u behind it
 pub record Fronts (w v : ℕ) (x u : List Bool) : Type 0 where
@@ -157,12 +165,51 @@ cause_is_shown s f e = go f (the_reason_is_true s f e)
     go (breaks r) (es, t, b, bad, inr k) = over es t r b bad k.2
 
 -- as the code knows it
-pub told_is_shown : (s : List Bool) (number : ℕ) (e : Title) (at : ℕ) → ToldAs (bare_data s) number e at → Shown number (drop at s) e (cause_in (bare_data s))
-told_is_shown s number e at (f, q, k, n, y) = rw (k, n, y, ap cause_in q) (cause_is_shown s f q)
+pub told_is_shown : (s : List Bool) (why : Refused) → Tells (bare_data s) why → Shown (number_of why.refusal) (drop why.offset s) why.element (cause_in (bare_data s))
+told_is_shown s why (f, q, t) = rw (t, each_is_named s f q, ap cause_in q) (cause_is_shown s f q)
 
--- the code that stands there is read again
-pub code_again : (bits : List Bool) (at v : ℕ) (t : List Bool) → bits ≡ ue_code v ++ t → holds_in variable (pos v) ≡ true → (ue nameless most_zeros at bits ≡ ok v (length (ue_code v))) × (drop (length (ue_code v)) bits ≡ t)
+-- ---- a code that is read again
+
+code_again : (bits : List Bool) (at v : ℕ) (t : List Bool) → bits ≡ ue_code v ++ t → holds_in variable (pos v) ≡ true → (ue nameless most_zeros at bits ≡ ok v (length (ue_code v))) × (drop (length (ue_code v)) bits ≡ t)
 code_again bits at v t e h = rw e ((codes_ue nameless most_zeros at).takes v (ltb-true (v + 1) (2 ^ suc most_zeros) h) t, drop_at (ue_code v) t (length (ue_code v)) refl)
 
-pub code_short : (v : ℕ) → holds_in variable (pos v) ≡ true → length (ue_code v) ≤ 63
+code_short : (v : ℕ) → holds_in variable (pos v) ≡ true → length (ue_code v) ≤ 63
 code_short v h = omega (arith, length-ue v, zeros_few most_zeros v (ltb-true (v + 1) (2 ^ suc most_zeros) h))
+
+-- refusals but for these have other numbers
+other_number : (r t : Refusal) → (r ≡ t → ⊥) → eqb (number_of r) (number_of t) ≡ false
+other_number r t n = ne_eqb (number_of r) (number_of t) (λ e. n (sym (each_has_its_own_number r) ∙ ap refusal_of e ∙ each_has_its_own_number t))
+
+later_number : (r : Refusal) → (r ≡ PastEnd → ⊥) → (r ≡ TooManyZeros → ⊥) → leb (number_of r) too_many_zeros ≡ false
+later_number r x y = go (number_of r) (each_has_its_own_number r)
+  where
+    go : (n : ℕ) → refusal_of n ≡ r → leb n too_many_zeros ≡ false
+    go zero e = absurd (x (sym e))
+    go (suc zero) e = absurd (x (sym e))
+    go (suc (suc zero)) e = absurd (y (sym e))
+    go (suc (suc (suc n))) e = lt-leb (suc (suc (suc n))) too_many_zeros (omega arith)
+
+-- a refusal's code: it is read again, and what stands behind it shows the cause
+pub record Coded (s : List Bool) (why : Refused) : Type 0 where
+  pub code : Number
+  pub again : read_number (ue nameless most_zeros why.offset (drop why.offset s)) ≡ Ok code
+  pub short : code.width ≤ 63
+  pub shown : ShownCode (number_of why.refusal) code.value (drop (why.offset + code.width) s) why.element (cause_in (bare_data s))
+
+coded : (s : List Bool) (why : Refused) (v : ℕ) (t : List Bool) → drop why.offset s ≡ ue_code v ++ t → holds_in variable (pos v) ≡ true → ShownCode (number_of why.refusal) v t why.element (cause_in (bare_data s)) → Coded s why
+coded s why v t e h shown =
+    let there = code_again (drop why.offset s) why.offset v t e h in
+    let behind = sym (drop-drop (length (ue_code v)) why.offset s) ∙ there.1 in
+    record { code = read_as v (length (ue_code v)); again = ap read_number there.0; short = code_short v h; shown = rw behind shown }
+
+pub a_code : (s : List Bool) (why : Refused) → Tells (bare_data s) why → (why.refusal ≡ PastEnd → ⊥) → (why.refusal ≡ TooManyZeros → ⊥) → (why.refusal ≡ NotZero → ⊥) → (why.refusal ≡ BytesRemain → ⊥) → Coded s why
+a_code s why h x y z w =
+    let r = why.refusal in
+    let (v, t, e, held, shown) = rw (later_number r x y, other_number r NotZero z, other_number r BytesRemain w) at (told_is_shown s why h) in
+    coded s why v t e held shown
+
+-- ---- a block that is read again
+
+-- bits behind k others from a position on stand k further
+pub further : (k n at : ℕ) (bits : List Bool) → number_behind k n (drop at bits) ≡ value (take n (drop (at + k) bits))
+further k n at bits = ap (λ (l : List Bool). value (take n l)) (drop-drop k at bits)

@@ -1,4 +1,3 @@
 pub mod Laws
-pub mod Functions
 pub mod Plain
 pub mod OneAnswer

@@ -5,65 +5,75 @@
 ghost use Rattle.std.specs.Prelude.{◌≡◌};
 ghost use Rattle.element.specs.Element.{number_of};
 
-// Nothing, where a reading is not refused, or not for an element.
-#[derive(Clone, Copy)]
+use bits::Unread;
+use refusals::Refusal;
+
+// Nothing, where a reading is not refused, or not for an element: it crosses to C as 0, so that it is no Option.
+#[derive(Clone, Copy, Debug, PartialEq, Eq, Hash)]
 pub enum Element {
-    Nothing,
-    AppIdentifier,
-    AppVersion,
-    MetadataRefreshFlag,
-    NumExtBlocks,
-    DmAlignmentZeroBit,
-    ExtBlockLength,
-    ExtBlockLevel,
-    MinPq,
-    MaxPq,
-    AvgPq,
-    TargetMaxPq,
-    TrimSlope,
-    TrimOffset,
-    TrimPower,
-    TrimChromaWeight,
-    TrimSaturationGain,
-    MsWeight,
-    ActiveAreaLeftOffset,
-    ActiveAreaRightOffset,
-    ActiveAreaTopOffset,
-    ActiveAreaBottomOffset,
-    ExtDmAlignmentZeroBit,
-    End,
-    Wrapper,
+    Nothing = 0,
+    AppIdentifier = 1,
+    AppVersion = 2,
+    MetadataRefreshFlag = 3,
+    NumExtBlocks = 4,
+    DmAlignmentZeroBit = 5,
+    ExtBlockLength = 6,
+    ExtBlockLevel = 7,
+    MinPq = 8,
+    MaxPq = 9,
+    AvgPq = 10,
+    TargetMaxPq = 11,
+    TrimSlope = 12,
+    TrimOffset = 13,
+    TrimPower = 14,
+    TrimChromaWeight = 15,
+    TrimSaturationGain = 16,
+    MsWeight = 17,
+    ActiveAreaLeftOffset = 18,
+    ActiveAreaRightOffset = 19,
+    ActiveAreaTopOffset = 20,
+    ActiveAreaBottomOffset = 21,
+    ExtDmAlignmentZeroBit = 22,
+    End = 23,
+    Wrapper = 24,
 }
 
-// Its number: its place in the enum.
+// Its number, for C.
 pub fn number_of(e: Element) -> u8
     ensures { result ≡ number_of e }
 {
-    match e {
-        Element::Nothing => 0,
-        Element::AppIdentifier => 1,
-        Element::AppVersion => 2,
-        Element::MetadataRefreshFlag => 3,
-        Element::NumExtBlocks => 4,
-        Element::DmAlignmentZeroBit => 5,
-        Element::ExtBlockLength => 6,
-        Element::ExtBlockLevel => 7,
-        Element::MinPq => 8,
-        Element::MaxPq => 9,
-        Element::AvgPq => 10,
-        Element::TargetMaxPq => 11,
-        Element::TrimSlope => 12,
-        Element::TrimOffset => 13,
-        Element::TrimPower => 14,
-        Element::TrimChromaWeight => 15,
-        Element::TrimSaturationGain => 16,
-        Element::MsWeight => 17,
-        Element::ActiveAreaLeftOffset => 18,
-        Element::ActiveAreaRightOffset => 19,
-        Element::ActiveAreaTopOffset => 20,
-        Element::ActiveAreaBottomOffset => 21,
-        Element::ExtDmAlignmentZeroBit => 22,
-        Element::End => 23,
-        Element::Wrapper => 24,
+    e as u8
+}
+
+// A refusal on its way: which, of which element, and where that begins.
+#[derive(Clone, Copy, Debug, PartialEq, Eq, Hash)]
+pub struct Refused {
+    pub refusal: Refusal,
+    pub element: Element,
+    pub offset: usize,
+}
+
+impl Refused {
+    ghost use Rattle.element.specs.Refused.{refused, unread_of};
+
+    pub fn at(refusal: Refusal, element: Element, offset: usize) -> Self
+        ensures { result ≡ refused refusal element offset }
+    {
+        Refused {
+            refusal,
+            element,
+            offset,
+        }
+    }
+
+    // What could not be read was this element.
+    pub fn of(element: Element, why: Unread) -> Self
+        ensures { result ≡ unread_of element why }
+    {
+        Refused {
+            refusal: why.refusal,
+            element,
+            offset: why.offset,
+        }
     }
 }

@@ -1,15 +1,15 @@
 -- Steps of the loops: what is to come from place i on is the byte there and what is to come behind it; and a buffer that is filled byte by byte.
-use Prim.Native.Nat.{ℕ, suc, ◌+◌, ◌-◌, ◌<◌, ◌≤◌}
+use Prim.Native.Nat.{ℕ, suc, ◌+◌, ◌<◌, ◌≤◌}
 use mathlib.Core.Path.{◌≡◌, refl, ap, sym, ◌∙◌}
 use mathlib.Core.List.{List, [], ◌∷◌, ◌++◌, append_assoc, append-nil}
-use mathlib.Core.Bool.{Bool, true, false, cond, not, ◌&&◌, ◌||◌, true≢false}
+use mathlib.Core.Bool.{Bool, true, false, cond, not, ◌&&◌, ◌||◌}
 use native.Mathlib.Omega.{arith}
 use native.Mathlib.Numerals.{add-one}
-use borrow.Author.Tests.{leb-true, leb-false, lt-ltb, le-ltb, ltb-true, ltb-false}
+use borrow.Author.Tests.{leb-true, leb-false, lt-ltb, le-ltb}
 use lib.Dec.{eqb, leb, ltb}
-use lib.ListN.{length, get_or, take, drop, set, length-drop, length-set, take-append-drop, drop_of_length-le}
+use lib.ListN.{length, get_or, take, drop, set, length-set, take-append-drop}
 use lib.Seq.{drop-cons, take-suc-set, drop-set-lt, drop-drop, length-take-le}
-use Rattle.emulation.specs.Emulation.{zeros_behind, is_emulation, left_out, removed_behind, needs_emulation, put_before, escaped_behind, begins_above, begins_forbidden, forbidden}
+use Rattle.emulation.specs.Emulation.{zeros_behind, is_emulation, left_out, removed_behind, needs_emulation, put_before, escaped_behind, begins_forbidden, forbidden}
 
 -- ---- tests
 
@@ -26,17 +26,6 @@ not_both : (a b t : Bool) → (not a || not b) ≡ t → a && b ≡ not t
 not_both true true t e = ap not e
 not_both true false t e = ap not e
 not_both false b t e = ap not e
-
--- the first of two tests without the second, and a third
-without_second : (a b c t : Bool) → (not a || b) ≡ t → a && (not b && c) ≡ not t && c
-without_second true true c t e = ap (λ (u : Bool). not u && c) e
-without_second true false c t e = ap (λ (u : Bool). not u && c) e
-without_second false b c t e = ap (λ (u : Bool). not u && c) e
-
--- where neither of two tests holds, the second does not
-second_not : (a b : Bool) → (a || b) ≡ false → b ≡ false
-second_not true b e = absurd (true≢false e)
-second_not false b e = e
 
 -- ---- the byte at place i, and what comes behind it
 
@@ -64,10 +53,11 @@ module _ (s : List ℕ) (i : ℕ) (h : i < length s) where
         let t : is_emulation zeros byte ≡ not keep = not_both (leb 2 zeros) (eqb byte 3) keep (rw fewer_than_two at e) in
         rw (byte_first, t)
 
-    -- a byte with the emulation byte before it, and one without
-    pub escaped_step : (put : Bool) → needs_emulation zeros byte ≡ put → escaped_behind zeros (drop i s) ≡ put_before put (byte ∷ escaped_behind (zeros_behind (cond put 0 zeros) byte) behind)
+    -- a byte, with the emulation byte before it or without
+    pub escaped_step : (put : Bool) (z : ℕ) → put ≡ needs_emulation zeros byte → z ≡ zeros_behind (cond (needs_emulation zeros byte) 0 zeros) byte
+        → escaped_behind zeros (drop i s) ≡ put_before put (byte ∷ escaped_behind z behind)
     unfolding escaped_behind
-    escaped_step put e = rw (byte_first, e)
+    escaped_step put z e f = rw (byte_first, e, f)
 
 -- at most one byte is put before
 one_longer : (t : Bool) (b : ℕ) (s : List ℕ) → length (left_out t b s) ≤ length s + 1
@@ -90,78 +80,10 @@ one_more_zero zeros b = go (eqb b 0)
     go true = omega arith
     go false = omega arith
 
--- ---- whether bytes that may not stand begin at place i
-
--- fewer than three bytes
-pub too_few : (s : List ℕ) (i : ℕ) → length s - i < 3 → false ≡ begins_forbidden (drop i s)
-too_few s i h = go (drop i s) (omega (arith, length-drop i s))
-  where
-    go : (t : List ℕ) → length t < 3 → false ≡ begins_forbidden t
-    go [] l = refl
-    go (a ∷ []) l = refl
-    go (a ∷ b ∷ []) l = refl
-    go (a ∷ b ∷ c ∷ t) l = absurd (omega arith)
-
--- whether there is a fourth byte, and it is above three
-abbrev fourth_above : List ℕ → ℕ → Bool
-fourth_above s i = not (ltb (length s - i) 4) && ltb 3 (get_or s (i + 3) 0)
-
-fourth_byte : (s : List ℕ) (i : ℕ) → begins_above 3 (drop (i + 3) s) ≡ fourth_above s i
-fourth_byte s i = go (ltb (length s - i) 4) refl
-  where
-    go : (few : Bool) → ltb (length s - i) 4 ≡ few → begins_above 3 (drop (i + 3) s) ≡ not few && ltb 3 (get_or s (i + 3) 0)
-    go true e = let l : length s ≤ i + 3 = omega (arith, ltb-true (length s - i) 4 e) in rw (drop_of_length-le s l)
-    go false e = let l : i + 3 < length s = omega (arith, ltb-false (length s - i) 4 e) in rw (byte_first s (i + 3) l)
-
--- the fourth byte is there where the test of it comes
-pub fourth_there : (s : List ℕ) (i : ℕ) (t : Bool) → (t || ltb (length s - i) 4) ≡ false → i + 3 < length s
-fourth_there s i t e = omega (arith, ltb-false (length s - i) 4 (second_not t (ltb (length s - i) 4) e))
-
-module _ (s : List ℕ) (i : ℕ) (h : 3 ≤ length s - i) where
-  abbrev first_zero : Bool
-  first_zero = eqb (get_or s i 0) 0
-
-  abbrev second_zero : Bool
-  second_zero = eqb (get_or s (i + 1) 0) 0
-
-  abbrev third : ℕ
-  third = get_or s (i + 2) 0
-
-  -- the tests of the bytes at place i and behind it
-  begins_at : begins_forbidden (drop i s) ≡ (first_zero && second_zero) && (ltb third 3 || (eqb third 3 && fourth_above s i))
-  begins_at =
-      let l : i < length s = omega arith in
-      let m : i + 1 < length s = omega arith in
-      let n : i + 2 < length s = omega arith in
-      let two : i + 1 + 1 ≡ i + 2 = omega arith in
-      let three : i + 2 + 1 ≡ i + 3 = omega arith in
-      rw (byte_first s i l, byte_first s (i + 1) m, two, byte_first s (i + 2) n, three, fourth_byte s i)
-
-  -- not two zero bytes
-  pub not_both_zero : (not first_zero || not second_zero) ≡ true → false ≡ begins_forbidden (drop i s)
-  not_both_zero e = sym (begins_at ∙ rw (not_both first_zero second_zero true e) refl)
-
-  -- two zero bytes
-  module _ (e : (not first_zero || not second_zero) ≡ false) where
-    behind_both : begins_forbidden (drop i s) ≡ ltb third 3 || (eqb third 3 && fourth_above s i)
-    behind_both = begins_at ∙ rw (not_both first_zero second_zero false e) refl
-
-    -- a third byte below three
-    pub third_below : third < 3 → true ≡ begins_forbidden (drop i s)
-    third_below l = sym (behind_both ∙ rw (lt-ltb third 3 l) refl)
-
-    -- and then a byte that is not below three
-    module _ (l : 3 ≤ third) where
-      by_fourth : begins_forbidden (drop i s) ≡ eqb third 3 && fourth_above s i
-      by_fourth = behind_both ∙ rw (le-ltb third 3 l) refl
-
-      -- the third is not three, or there is no fourth
-      pub no_fourth : (not (eqb third 3) || ltb (length s - i) 4) ≡ true → false ≡ begins_forbidden (drop i s)
-      no_fourth f = sym (by_fourth ∙ without_second (eqb third 3) (ltb (length s - i) 4) (ltb 3 (get_or s (i + 3) 0)) true f)
-
-      -- the third is three, and the fourth decides
-      pub fourth_above_lem : (not (eqb third 3) || ltb (length s - i) 4) ≡ false → ltb 3 (get_or s (i + 3) 0) ≡ begins_forbidden (drop i s)
-      fourth_above_lem f = sym (by_fourth ∙ without_second (eqb third 3) (ltb (length s - i) 4) (ltb 3 (get_or s (i + 3) 0)) false f)
+-- the same where they may count anew
+pub few_zeros : (zeros : ℕ) (anew : Bool) (b : ℕ) → zeros_behind (cond anew 0 zeros) b ≤ zeros + 1
+few_zeros z true b = omega (arith, one_more_zero 0 b)
+few_zeros z false b = one_more_zero z b
 
 -- ---- a buffer that is filled byte by byte
 

@@ -6,12 +6,9 @@ use std::io;
 
 // The maximum of the scene's PQ range, where the record's first block tells it, else 0.
 fn brightest(record: Record) -> u16 {
-    let place = record.places[0];
-    let block = place.block;
-    if let Block::Level1 { max_pq, .. } = block {
-        max_pq
-    } else {
-        0
+    match record.places[0].block {
+        Block::Level1 { max_pq, .. } => max_pq,
+        _ => 0,
     }
 }
 

@@ -1,21 +1,22 @@
 -- Laws by which the functions that read the fields of a level meet their definitions.
-use Prim.Native.Nat.{ℕ, zero, suc, ◌+◌, ◌-◌, ◌*◌, ◌/◌, ◌%◌, ◌^◌, ◌<◌, ◌≤◌}
+use Prim.Native.Nat.{ℕ, suc, ◌+◌, ◌-◌, ◌*◌, ◌/◌, ◌%◌, ◌^◌, ◌<◌, ◌≤◌}
 use mathlib.Core.Path.{◌≡◌, refl, ap, sym, ◌∙◌}
 use mathlib.Core.List.{List, [], ◌∷◌, ◌++◌, map}
 use mathlib.Core.Bool.{Bool, true, false, cond}
 use native.Mathlib.Omega.{arith}
 use native.Mathlib.Nat.{add-zero, zero-mul, add-mul, div-eq_of_lt, div-eq-sub-div}
-use borrow.Author.Tests.{ltb-true, ltb-false, leb-true, leb-false, le-leb, lt-leb, ne_eqb}
-use lib.Dec.{leb, ltb}
+use borrow.Author.Tests.{ltb-true, ltb-false, ne_eqb}
+use lib.Dec.{ltb}
 use lib.IntN.{ℤ}
-use lib.ListN.{length, take, drop, take-append-drop}
+use lib.ListN.{length, take, drop, get_or, take-append-drop}
 use lib.Pow.{pow_mono}
 use lib.Seq.{drop-drop}
 use mir.Syntax.{w16}
 use mir.Val.{SFits}
-use Rattle.refusals.specs.Refusals.{past_end}
+use Rattle.std.specs.Prelude.{Result, Ok, Err}
+use Rattle.refusals.specs.declared.Refusal.TheVariants.{PastEnd}
 use Rattle.tree.specs.Bits.{bits_of, value}
-use Rattle.tree.specs.Reading.{Fault, cut_off, number_in, offset_in, element_in, Out, ok, no, mapped, signed_of}
+use Rattle.tree.specs.Reading.{cut_off, Out, ok, no, mapped, signed_of}
 use Rattle.tree.specs.Coding.{Coding, width_of, total_width}
 use Rattle.tree.specs.Syntax.{Field, coding_of, row, read}
 use Rattle.tree.proofs.Elements.{twice_half, signed_low, signed_high}
@@ -23,17 +24,22 @@ use Rattle.tree.proofs.Bits.{length_rest}
 use Rattle.tree.proofs.Steps.{field_value, values_in, cut_in, row_there, row_cut}
 use Rattle.window.proofs.Laws.{within}
 use Rattle.element.specs.declared.Element.{Element}
-use Rattle.element.specs.declared.Element.TheVariants.{AvgPq, MsWeight, ActiveAreaBottomOffset}
+use Rattle.element.specs.declared.Element.TheVariants.{Nothing}
+use Rattle.element.specs.declared.Refused.{Refused}
+use Rattle.element.specs.Refused.{refused}
 use Rattle.record.specs.declared.Block.{Block}
-use Rattle.record.specs.declared.Block.TheVariants.{Nothing}
+use Rattle.record.specs.declared.Block.TheVariants.{Nothing as NoBlock}
 use Rattle.record.specs.Name.{Name, element_of}
 use Rattle.record.specs.Level.{Level, fields_of, codings}
 use Rattle.record.proofs.Laws.{no_level}
 use Rattle.syntax.specs.Data.{block_of}
-use Rattle.syntax.specs.Told.{ToldAs}
+use Rattle.syntax.specs.Told.{refused_as, Tells}
 use Rattle.fields.specs.declared.Step.{Step}
-use Rattle.fields.specs.declared.Step.TheVariants.{Is, Refused}
-use Rattle.fields.specs.Step.{step_of, refused_step, whole_fields, name_behind}
+use Rattle.fields.specs.Step.{step_of, whole_fields, cut_behind}
+
+-- a block that was read
+abbrev is_step : Block → ℕ → Result Step Refused
+is_step b n = Ok (record { block = b; width = n })
 
 -- ---- fields
 
@@ -85,46 +91,32 @@ OneWidth w f (g ∷ fs) = (width_of f.coding ≡ w) × OneWidth w g fs
 
 -- with one whole field more
 one_whole_more : (n w k : ℕ) → 0 < w → w ≤ n → whole_fields n w (suc k) ≡ suc (whole_fields (n - w) w k)
-one_whole_more n w k p h = go (leb ((n - w) / w) k) refl
-  where
-    q : n / w ≡ (n - w) / w + 1
-    q = div-eq-sub-div p h
+one_whole_more n w k p h = omega (arith, div-eq-sub-div p h)
 
-    go : (b : Bool) → leb ((n - w) / w) k ≡ b → whole_fields n w (suc k) ≡ suc (cond b ((n - w) / w) k)
-    go true e = rw (q, le-leb ((n - w) / w + 1) (suc k) (omega (arith, leb-true ((n - w) / w) k e))) (omega arith)
-    go false e = rw (q, lt-leb ((n - w) / w + 1) (suc k) (omega (arith, leb-false ((n - w) / w) k e)))
-
--- what is told of a fault
-abbrev told : Fault Name → Step
-told f = refused_step (number_in f) (element_of (element_in f)) (offset_in f)
-
--- that k whole fields of width w stand before the one that is cut off
-abbrev cut_behind : (k w : ℕ) → List (Field Name) → ℕ → Step
-cut_behind k w fs at = refused_step past_end (element_of (name_behind k fs)) (at + k * w)
+-- the names of fields
+abbrev titles : List (Field Name) → List Element
+titles fs = map (λ (f : Field Name). element_of f.name) fs
 
 -- of the field that is cut off, where n bits are there
-cut_told : (w : ℕ) → 0 < w → (f : Field Name) (fs : List (Field Name)) → OneWidth w f fs → (at n : ℕ) → told (cut_in f fs at n) ≡ cut_behind (whole_fields n w (length fs)) w (f ∷ fs) at
-unfolding cut_in name_behind
-cut_told w p f [] h at n = sym (none (leb (n / w) 0) refl)
-  where
-    none : (b : Bool) → leb (n / w) 0 ≡ b → cut_behind (cond b (n / w) 0) w (f ∷ []) at ≡ refused_step past_end (element_of f.name) at
-    none true e =
-        let z : n / w ≡ 0 = omega (arith, leb-true (n / w) 0 e) in
-        rw (z, zero-mul w, add-zero at)
-    none false e = rw (zero-mul w, add-zero at)
+cut_told : (w : ℕ) → 0 < w → (f : Field Name) (fs : List (Field Name)) → OneWidth w f fs → (at n : ℕ) → refused_as (cut_in f fs at n) ≡ cut_behind (titles (f ∷ fs)) w at (whole_fields n w (length fs))
+unfolding cut_in
+cut_told w p f [] h at n =
+    let z : whole_fields n w 0 ≡ 0 = omega arith in
+    rw (z, zero-mul w, add-zero at)
 cut_told w p f (g ∷ fs) h at n = rw h.0 (go (cut_told w p g fs h.1 (at + w) (n - w)) (ltb n w) refl)
   where
-    further : (k : ℕ) → cut_behind k w (g ∷ fs) (at + w) ≡ cut_behind (suc k) w (f ∷ g ∷ fs) at
+    further : (k : ℕ) → cut_behind (titles (g ∷ fs)) w (at + w) k ≡ cut_behind (titles (f ∷ g ∷ fs)) w at (suc k)
     further k =
         let s : suc k ≡ k + 1 = omega arith in
         let e : at + w + k * w ≡ at + (k + 1) * w = omega (arith, add-mul k 1 w) in
-        ap (refused_step past_end (element_of (name_behind k (g ∷ fs)))) (e ∙ ap (λ (j : ℕ). at + j * w) (sym s))
+        ap (refused PastEnd (get_or (titles (g ∷ fs)) k Nothing)) (e ∙ ap (λ (j : ℕ). at + j * w) (sym s))
 
-    go : told (cut_in g fs (at + w) (n - w)) ≡ cut_behind (whole_fields (n - w) w (length fs)) w (g ∷ fs) (at + w) → (b : Bool) → ltb n w ≡ b
-        → told (cond b (cut_off at f.name) (cut_in g fs (at + w) (n - w))) ≡ cut_behind (whole_fields n w (suc (length fs))) w (f ∷ g ∷ fs) at
+    go : refused_as (cut_in g fs (at + w) (n - w)) ≡ cut_behind (titles (g ∷ fs)) w (at + w) (whole_fields (n - w) w (length fs)) → (b : Bool) → ltb n w ≡ b
+        → refused_as (cond b (cut_off at f.name) (cut_in g fs (at + w) (n - w))) ≡ cut_behind (titles (f ∷ g ∷ fs)) w at (whole_fields n w (suc (length fs)))
     go ih true e =
-        let z : n / w ≡ 0 = div-eq_of_lt (ltb-true n w e) in
-        rw (z, le-leb 0 (suc (length fs)) (omega arith), zero-mul w, add-zero at)
+        let q : n / w ≡ 0 = div-eq_of_lt (ltb-true n w e) in
+        let z : whole_fields n w (suc (length fs)) ≡ 0 = omega (arith, q) in
+        rw (z, zero-mul w, add-zero at)
     go ih false e = ih ∙ rw (one_whole_more n w (length fs) p (ltb-false n w e)) (further (whole_fields (n - w) w (length fs)))
 
 -- 16 bits hold a signed field of at most 16 bits
@@ -144,60 +136,34 @@ signed_fits n v some most h = go (ltb v (2 ^ (n - 1))) refl
 -- the answer for the fields of a level, where they are there, the first k in one word and the others in the next, and where they are not
 module _ (l : ℕ) (s : List ℕ) (at : ℕ) where
   pub fields_is : (k : ℕ) → at + total_width (codings l) ≤ 8 * length s
-      → Is (block_of l (values_at (take k (codings l)) (bits_of s) at ++ values_at (drop k (codings l)) (bits_of s) (at + total_width (take k (codings l))))) (total_width (codings l))
+      → is_step (block_of l (values_at (take k (codings l)) (bits_of s) at ++ values_at (drop k (codings l)) (bits_of s) (at + total_width (take k (codings l))))) (total_width (codings l))
       ≡ step_of (mapped (block_of l) (read (row (fields_of l)) at (drop at (bits_of s))))
   fields_is k h = rw (row_there (fields_of l) at (drop at (bits_of s)) (omega (arith, length_rest s at)), values_at_lem k (codings l) s at h)
 
-  -- n bits are there, which are not all
+  -- not all bits are there
   pub fields_refused : (w : ℕ) → 0 < w → (f : Field Name) (fs : List (Field Name)) → fields_of l ≡ f ∷ fs → OneWidth w f fs → at ≤ 8 * length s → 8 * length s < at + total_width (codings l)
-      → cut_behind (whole_fields (8 * length s - at) w (length fs)) w (fields_of l) at ≡ step_of (mapped (block_of l) (read (row (fields_of l)) at (drop at (bits_of s))))
+      → Err (cut_behind (titles (fields_of l)) w at (whole_fields (8 * length s - at) w (length fs))) ≡ step_of (mapped (block_of l) (read (row (fields_of l)) at (drop at (bits_of s))))
   fields_refused w p f fs e o h k =
       let r = length_rest s at in
       let short : length (drop at (bits_of s)) < total_width (map coding_of (f ∷ fs)) = omega (arith, r, ap (λ (gs : List (Field Name)). total_width (map coding_of gs)) e) in
-      (ap (λ (gs : List (Field Name)). cut_behind (whole_fields (8 * length s - at) w (length fs)) w gs at) e ∙ sym (cut_told w p f fs o at (8 * length s - at)) ∙ ap (λ (n : ℕ). told (cut_in f fs at n)) (sym r))
-      ∙ sym (ap (λ (gs : List (Field Name)). step_of (mapped (block_of l) (read (row gs) at (drop at (bits_of s))))) e ∙ ap (λ (x : Out Name (List ℤ)). step_of (mapped (block_of l) x)) (row_cut f fs at (drop at (bits_of s)) short))
+      let told = ap (λ (n : ℕ). refused_as (cut_in f fs at n)) r ∙ cut_told w p f fs o at (8 * length s - at) in
+      rw (e, row_cut f fs at (drop at (bits_of s)) short) (ap Err (sym told))
 
 -- a level that is not known has no fields
-pub fields_none : (l at : ℕ) (s : List Bool) → (l ≡ 1 → ⊥) → (l ≡ 2 → ⊥) → (l ≡ 5 → ⊥) → Is Nothing 0 ≡ step_of (mapped (block_of l) (read (row (fields_of l)) at s))
+pub fields_none : (l at : ℕ) (s : List Bool) → (l ≡ 1 → ⊥) → (l ≡ 2 → ⊥) → (l ≡ 5 → ⊥) → is_step NoBlock 0 ≡ step_of (mapped (block_of l) (read (row (fields_of l)) at s))
 unfolding read row
 fields_none l at s f g h =
     let c : fields_of l ≡ [] = ap (λ (v : Level). v.fields) (no_level l f g h) in
-    let b : block_of l [] ≡ Nothing = rw (ne_eqb l 1 f, ne_eqb l 2 g, ne_eqb l 5 h) in
+    let b : block_of l [] ≡ NoBlock = rw (ne_eqb l 1 f, ne_eqb l 2 g, ne_eqb l 5 h) in
     rw (c, b)
-
--- ---- the names of fields
-
--- behind so many fields or more it is the last one
-pub last_of_1 : (k : ℕ) → (k ≡ 0 → ⊥) → (k ≡ 1 → ⊥) → AvgPq ≡ element_of (name_behind k (fields_of 1))
-unfolding name_behind
-last_of_1 zero a b = absurd (a refl)
-last_of_1 (suc zero) a b = absurd (b refl)
-last_of_1 (suc (suc k)) a b = refl
-
-pub last_of_2 : (k : ℕ) → (k ≡ 0 → ⊥) → (k ≡ 1 → ⊥) → (k ≡ 2 → ⊥) → (k ≡ 3 → ⊥) → (k ≡ 4 → ⊥) → (k ≡ 5 → ⊥) → MsWeight ≡ element_of (name_behind k (fields_of 2))
-unfolding name_behind
-last_of_2 zero a b c d e f = absurd (a refl)
-last_of_2 (suc zero) a b c d e f = absurd (b refl)
-last_of_2 (suc (suc zero)) a b c d e f = absurd (c refl)
-last_of_2 (suc (suc (suc zero))) a b c d e f = absurd (d refl)
-last_of_2 (suc (suc (suc (suc zero)))) a b c d e f = absurd (e refl)
-last_of_2 (suc (suc (suc (suc (suc zero))))) a b c d e f = absurd (f refl)
-last_of_2 (suc (suc (suc (suc (suc (suc k)))))) a b c d e f = refl
-
-pub last_of_5 : (k : ℕ) → (k ≡ 0 → ⊥) → (k ≡ 1 → ⊥) → (k ≡ 2 → ⊥) → ActiveAreaBottomOffset ≡ element_of (name_behind k (fields_of 5))
-unfolding name_behind
-last_of_5 zero a b c = absurd (a refl)
-last_of_5 (suc zero) a b c = absurd (b refl)
-last_of_5 (suc (suc zero)) a b c = absurd (c refl)
-last_of_5 (suc (suc (suc k))) a b c = refl
 
 -- ---- answers
 
 -- what an answer says of the reading that it is of
-pub step_ok : (o : Out Name Block) (b : Block) (n : ℕ) → Is b n ≡ step_of o → o ≡ ok b n
-step_ok (ok a m) b n e = cc
-step_ok (no f) b n e = let z : ◌≡◌ {A = ℕ} 0 1 = cc in absurd (omega arith)
+pub step_ok : (o : Out Name Block) (t : Step) → Ok t ≡ step_of o → o ≡ ok t.block t.width
+step_ok (ok b n) t e = cc
+step_ok (no f) t e = cc
 
-pub step_no : (o : Out Name Block) (k : ℕ) (x : Element) (at : ℕ) → Refused k x at ≡ step_of o → ToldAs o k x at
-step_no (ok a m) k x at e = let z : ◌≡◌ {A = ℕ} 0 1 = cc in absurd (omega arith)
-step_no (no f) k x at e = (f, refl, cc, cc, cc)
+pub step_no : (o : Out Name Block) (r : Refused) → Err r ≡ step_of o → Tells o r
+step_no (ok b n) r e = cc
+step_no (no f) r e = (f, refl, cc)

@@ -8,12 +8,12 @@ use native.Mathlib.Numerals.{add-one}
 use native.Mathlib.Omega.{arith}
 use lib.Dec.{eqb}
 use lib.IntN.{ℤ, pos}
-use lib.ListN.{length, take, drop, get_or, set, replicate, length-append}
-use lib.Seq.{drop-drop, drop-append-add, take_at, drop-cons, set_at, append_snoc, get_or-take, get_or-drop, paste, paste-zero, paste-suc}
+use lib.ListN.{length, take, drop, get_or, set, replicate, length-append, length-drop}
+use lib.Seq.{drop-drop, drop-append-add, take_at, drop-cons, set_at, append_snoc, get_or-take, get_or-drop, paste, paste-zero, paste-suc, length-take-le}
 use mir.Facts.{sfits_lit}
 use mir.Syntax.{w32}
 use mir.Val.{to_z, of_z, bool_byte, SFits}
-use mir.ValLaws.{to_z_pos}
+use mir.ValLaws.{to_z-of_z}
 use Rattle.tree.specs.Bits.{bit}
 use Rattle.record.specs.declared.Block.{Block}
 use Rattle.record.specs.declared.Block.TheVariants.{Nothing, Level1, Level2, Level5}
@@ -103,13 +103,10 @@ read_to l i = record { refresh = same_number (number_at l 0) (pos 1); count = un
 abbrev pub named_to : List ℤ → ℕ → Bool
 named_to l i = names_head l && always (λ j. names_block (place_numbers l j)) i
 
-pub read_more : (l : List ℤ) (i : ℕ) (r : Record) (b : Block) → i < most_blocks → r ≡ read_to l i → b ≡ block_said (place_numbers l i)
-    → record { refresh = r.refresh; count = r.count; places = set r.places i (place_with b) } ≡ read_to l (i + 1)
-read_more l i r b h e f =
-    ap (λ (q : Record). record { refresh = q.refresh; count = q.count; places = set q.places i (place_with b) }) e
-    ∙ ap (λ (x : Block). record { refresh = (read_to l i).refresh; count = (read_to l i).count; places = set (read_to l i).places i (place_with x) }) f
-    ∙ ap (λ (ps : List Place). record { refresh = (read_to l i).refresh; count = (read_to l i).count; places = ps }) (each_more (place_in l) (replicate most_blocks empty_place) empty_place i h)
-    ∙ ap (read_to l) (sym (add-one i))
+pub places_more : (l : List ℤ) (i : ℕ) (ps : List Place) (b : Block) → i < most_blocks → ps ≡ (read_to l i).places → b ≡ block_said (place_numbers l i)
+    → set ps i (place_with b) ≡ (read_to l (i + 1)).places
+places_more l i ps b h e f =
+    rw (e, f, add-one i) (each_more (place_in l) (replicate most_blocks empty_place) empty_place i h)
 
 pub named_more : (beside : Bool) (l : List ℤ) (i : ℕ) (t u : Bool) → t ≡ beside && named_to l i → u ≡ names_block (place_numbers l i) → t && u ≡ beside && named_to l (i + 1)
 unfolding always
@@ -118,19 +115,25 @@ named_more beside l i t u e f =
     ∙ ap (λ (b : Bool). beside && b) (and_assoc (names_head l) (always (λ j. names_block (place_numbers l j)) i) (names_block (place_numbers l i))))
 
 -- after all of them
-read_named : (l : List ℤ) (r : Record) → r ≡ read_to l most_blocks → named_to l most_blocks ≡ true → r ≡ record_in l
-unfolding record_in names said
-read_named l r e h =
-    e ∙ ap (λ (ps : List Place). record { refresh = (read_to l 0).refresh; count = (read_to l 0).count; places = ps }) (append-nil (each (place_in l) most_blocks))
-    ∙ sym (ap (λ (t : Bool). cond t (said l) unnamed_record) h)
-
 not_named : (l : List ℤ) → named_to l most_blocks ≡ false → unnamed_record ≡ record_in l
 unfolding record_in names
 not_named l h = sym (ap (λ (t : Bool). cond t (said l) unnamed_record) h)
 
-pub read_beside : (beside : Bool) (l : List ℤ) (r : Record) → r ≡ read_to l most_blocks → beside && named_to l most_blocks ≡ true → r ≡ record_beside beside l
-read_beside true l r e h = read_named l r e h
-read_beside false l r e h = let z : ◌≡◌ {A = ℕ} 0 1 = cc in absurd (omega arith)
+-- what is made of the flag, the count and the places that were read
+abbrev pub made_of : Bool → ℕ → List Place → Record
+made_of refresh count ps = record { refresh = refresh; count = count; places = ps }
+
+read_named : (l : List ℤ) → named_to l most_blocks ≡ true → read_to l most_blocks ≡ record_in l
+unfolding record_in names said
+read_named l h =
+    ap (made_of (same_number (number_at l 0) (pos 1)) (unsigned_in 8 (number_at l 1))) (append-nil (each (place_in l) most_blocks))
+    ∙ sym (ap (λ (t : Bool). cond t (said l) unnamed_record) h)
+
+pub read_beside : (beside : Bool) (l : List ℤ) (refresh : Bool) (count : ℕ) (ps : List Place)
+    → refresh ≡ same_number (number_at l 0) (pos 1) → count ≡ unsigned_in 8 (number_at l 1) → ps ≡ (read_to l most_blocks).places
+    → beside && named_to l most_blocks ≡ true → made_of refresh count ps ≡ record_beside beside l
+read_beside true l refresh count ps e f g h = rw (e, f, g) (read_named l h)
+read_beside false l refresh count ps e f g h = let z : ◌≡◌ {A = ℕ} 0 1 = cc in absurd (omega arith)
 
 pub not_beside : (beside : Bool) (l : List ℤ) → beside && named_to l most_blocks ≡ false → unnamed_record ≡ record_beside beside l
 not_beside true l h = not_named l h
@@ -146,45 +149,59 @@ two_of (x ∷ y ∷ l) h = refl
 pub number_in : (row : List ℤ) (at k : ℕ) → k < flat_length → number_at (take flat_length (drop at row)) k ≡ number_at row (at + k)
 number_in row at k h = get_or-take flat_length (drop at row) k (pos 0) h ∙ get_or-drop at row k (pos 0)
 
--- what the code compares, of numbers x and y
-module _ (l : List ℤ) (x y : ℤ) (f : SFits w32 x) (g : SFits w32 y) (long : 2 ≤ length l) (first : number_at l 0 ≡ x) (second : number_at l 1 ≡ y) where
-  pub flag_is : eqb (of_z w32 x) 1 ≡ same_number (number_at l 0) (pos 1)
-  flag_is = same_bits x (pos 1) f (sfits_lit tt) ∙ ap (λ (z : ℤ). same_number z (pos 1)) (sym first)
+-- what the code reads of the flag and the count, and compares
+module _ (row : List ℤ) (at : ℕ) (room : at + flat_length ≤ length row) (f : SFits w32 (number_at row at)) (g : SFits w32 (number_at row (at + 1))) where
+  abbrev l : List ℤ
+  l = take flat_length (drop at row)
 
-  by_flag : (t : Bool) → eqb (of_z w32 x) (bool_byte t) ≡ same_number x (pos (bit t))
-  by_flag true = same_bits x (pos 1) f (sfits_lit tt)
-  by_flag false = same_bits x (pos 0) f (sfits_lit tt)
+  abbrev flag : ℕ
+  flag = of_z w32 (number_at row at)
 
-  pub head_is : (count : ℕ) → count < 256 → count ≡ unsigned_in 8 y → eqb (of_z w32 x) (bool_byte (eqb (of_z w32 x) 1)) && eqb (of_z w32 y) count ≡ names_head l
-  unfolding same_row
-  head_is count small e =
-      let a : eqb (of_z w32 x) (bool_byte (eqb (of_z w32 x) 1)) ≡ same_number (number_at l 0) (pos (bit (same_number (number_at l 0) (pos 1)))) =
-      by_flag (eqb (of_z w32 x) 1) ∙ ap (λ (t : Bool). same_number x (pos (bit t))) flag_is ∙ ap (λ (z : ℤ). same_number z (pos (bit (same_number (number_at l 0) (pos 1))))) (sym first) in
-      let b : eqb (of_z w32 y) count ≡ same_number (number_at l 1) (pos (unsigned_in 8 (number_at l 1))) =
-      same_bits y (pos count) g (record { sfits = omega arith }) ∙ ap (λ (n : ℕ). same_number y (pos n)) e ∙ ap (λ (z : ℤ). same_number z (pos (unsigned_in 8 z))) (sym second) in
-      rw (a, b, two_of l long) (ap (λ (t : Bool). same_number (number_at l 0) (pos (bit (same_number (number_at l 0) (pos 1)))) && t) (sym (and-true _)))
+  first : number_at l 0 ≡ number_at row at
+  first = let e : at + 0 ≡ at = omega arith in number_in row at 0 (omega arith) ∙ ap (number_at row) e
 
-flag_wide : (t : Bool) → to_z w32 (bool_byte t) ≡ pos (bit t)
-flag_wide true = refl
-flag_wide false = refl
+  second : number_at l 1 ≡ number_at row (at + 1)
+  second = number_in row at 1 (omega arith)
 
-module _ (d : List ℤ) (at : ℕ) (r : Record) (room : at + flat_length ≤ length d) (small : r.count < 256) where
+  pub flag_read : eqb flag 1 ≡ same_number (number_at l 0) (pos 1)
+  flag_read = rw first (same_bits (number_at row at) (pos 1) f (sfits_lit tt))
+
+  by_flag : (t : Bool) (z : ℤ) → z ≡ pos (bool_byte t) → eqb flag (of_z w32 z) ≡ same_number (number_at row at) (pos (bit t))
+  by_flag true z e = rw e (same_bits (number_at row at) (pos 1) f (sfits_lit tt))
+  by_flag false z e = rw e (same_bits (number_at row at) (pos 0) f (sfits_lit tt))
+
+  module _ (count : ℕ) (small : count < 256) (e : count ≡ unsigned_in 8 (to_z w32 (of_z w32 (number_at row (at + 1))))) where
+    pub count_read : count ≡ unsigned_in 8 (number_at l 1)
+    count_read = e ∙ ap (unsigned_in 8) (to_z-of_z w32 (number_at row (at + 1)) g ∙ sym second)
+
+    pub head_read : (x y : ℤ) → x ≡ pos (bool_byte (eqb flag 1)) → y ≡ pos count
+        → eqb flag (of_z w32 x) && eqb (of_z w32 (number_at row (at + 1))) (of_z w32 y) ≡ names_head l
+    unfolding same_row
+    head_read x y h k =
+        let a : eqb flag (of_z w32 x) ≡ same_number (number_at l 0) (pos (bit (same_number (number_at l 0) (pos 1)))) =
+        rw (← flag_read, first) (by_flag (eqb flag 1) x h) in
+        let b : eqb (of_z w32 (number_at row (at + 1))) (of_z w32 y) ≡ same_number (number_at l 1) (pos (unsigned_in 8 (number_at l 1))) =
+        rw (← count_read, second, k) (same_bits (number_at row (at + 1)) (pos count) g (record { sfits = omega arith })) in
+        let long : 2 ≤ length l = omega (arith, length-take-le flat_length (drop at row) (omega (arith, length-drop at row))) in
+        rw (a, b, two_of l long) (ap (λ (t : Bool). same_number (number_at l 0) (pos (bit (same_number (number_at l 0) (pos 1)))) && t) (sym (and-true _)))
+
+pub flag_is : (t : Bool) → bool_byte t ≡ bit t
+flag_is true = refl
+flag_is false = refl
+
+module _ (d : List ℤ) (at : ℕ) (r : Record) (room : at + flat_length ≤ length d) (x y : ℤ) (e : x ≡ pos (bool_byte r.refresh)) (f : y ≡ pos r.count) where
   abbrev headed : List ℤ
-  headed = set (set d at (to_z w32 (bool_byte r.refresh))) (at + 1) (to_z w32 r.count)
+  headed = set (set d at x) (at + 1) y
 
   head_pasted : headed ≡ paste d at (flat r) 2
   unfolding flat
   head_pasted =
-      let e : at + 0 ≡ at = omega arith in
+      let n : at + 0 ≡ at = omega arith in
       let one : set d at (pos (bit r.refresh)) ≡ paste d at (flat r) 1 =
-      ap (λ (t : List ℤ). set t at (pos (bit r.refresh))) (paste-zero d at (flat r)) ∙ ap (λ (k : ℕ). set (paste d at (flat r) 0) k (pos (bit r.refresh))) (sym e)
+      ap (λ (t : List ℤ). set t at (pos (bit r.refresh))) (paste-zero d at (flat r)) ∙ ap (λ (k : ℕ). set (paste d at (flat r) 0) k (pos (bit r.refresh))) (sym n)
       ∙ paste-suc d at (flat r) 0 (pos 0) (omega arith) (omega arith) in
-      ap (λ (z : ℤ). set (set d at z) (at + 1) (to_z w32 r.count)) (flag_wide r.refresh)
-      ∙ ap (λ (z : ℤ). set (set d at (pos (bit r.refresh))) (at + 1) z) (to_z_pos w32 r.count (omega arith))
-      ∙ ap (λ (t : List ℤ). set t (at + 1) (pos r.count)) one ∙ paste-suc d at (flat r) 1 (pos 0) (omega arith) (omega arith)
+      rw (e, f, flag_is r.refresh, one) (paste-suc d at (flat r) 1 (pos 0) (omega arith) (omega arith))
 
   pub record_pasted : paste headed (at + 2) (flat_places r.places) (8 * most_blocks) ≡ paste d at (flat r) flat_length
   unfolding flat
-  record_pasted =
-      ap (λ (t : List ℤ). paste t (at + 2) (flat_places r.places) (8 * most_blocks)) head_pasted
-      ∙ paste_more d at (flat r) 2 (flat_places r.places) (8 * most_blocks) (omega arith) (omega arith) refl
+  record_pasted = rw head_pasted (paste_more d at (flat r) 2 (flat_places r.places) (8 * most_blocks) (omega arith) (omega arith) refl)

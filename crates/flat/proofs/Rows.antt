@@ -1,19 +1,22 @@
 -- Rows of numbers: when two are equal, and a run of pastes that is one.
 use Prim.Native.Nat.{ℕ, suc, ◌+◌, ◌<◌, ◌≤◌}
 use mathlib.Core.Path.{◌≡◌, refl, sym, ap, ◌∙◌}
-use mathlib.Core.Bool.{Bool, true, false, ◌&&◌, and-true, and_assoc}
-use mathlib.Core.List.{List, [], ◌∷◌, ◌++◌, append_assoc}
+use mathlib.Core.Bool.{true}
+use mathlib.Core.List.{List, [], ◌∷◌, ◌++◌, append_assoc, append-nil}
 use native.Mathlib.Omega.{arith}
-use borrow.Author.Tests.{eqb-true, eq-eqb, ne_eqb}
+use borrow.Author.Tests.{eqb-true, eq-eqb}
 use lib.Dec.{eqb}
 use lib.IntN.{ℤ, pos, negsuc}
-use lib.ListN.{length, take, drop, get_or, set}
-use lib.Seq.{paste, paste-suc, take-paste, drop-paste, take-add, drop-drop}
-use mir.Syntax.{w16, w32}
+use lib.ListN.{length, get_or, set, take, drop, drop_of_length-le}
+use lib.Seq.{paste, paste-suc, take_all, take-paste, drop-paste, take-add, drop-drop}
+use mir.Syntax.{w32}
 use mir.Val.{to_z, of_z, SFits}
 use mir.ValLaws.{to_z-of_z}
+use Rattle.std.specs.Cmp.Lexicographic.{pointwise}
+use Rattle.std.specs.Cmp.Rules.{signed_items}
+use Rattle.std.specs.Ordering.{int_eq}
 use Rattle.record.proofs.Laws.{same_test, and_left, and_right}
-use Rattle.flat.specs.Flat.{same_number, same_row, unsigned_in, signed_in}
+use Rattle.flat.specs.Flat.{same_number, same_row}
 
 -- ---- equal numbers
 
@@ -34,20 +37,6 @@ same_bits a b f g =
     (λ h. let e : a ≡ b = sym (to_z-of_z w32 a f) ∙ ap (to_z w32) (eqb-true (of_z w32 a) (of_z w32 b) h) ∙ to_z-of_z w32 b g in ap (same_number a) (sym e) ∙ same_number_refl a)
     (λ h. eq-eqb (of_z w32 a) (of_z w32 b) (ap (of_z w32) (same_number_true a b h)))
 
--- a number that is below half the width is its own bits
-pub level_is : (z : ℤ) (n : ℕ) → SFits w32 z → SFits w32 (pos n) → of_z w32 z ≡ of_z w32 (pos n) → same_number z (pos n) ≡ true
-level_is z n f g h = sym (same_bits z (pos n) f g) ∙ eq-eqb (of_z w32 z) (of_z w32 (pos n)) h
-
-pub level_is_not : (z : ℤ) (n : ℕ) → SFits w32 z → SFits w32 (pos n) → (of_z w32 z ≡ of_z w32 (pos n) → ⊥) → same_number z (pos n) ≡ false
-level_is_not z n f g h = sym (same_bits z (pos n) f g) ∙ ne_eqb (of_z w32 z) (of_z w32 (pos n)) h
-
--- what the code reads a field from
-pub field_is : (z : ℤ) (r : ℕ) → SFits w32 z → r ≡ unsigned_in 16 (to_z w32 (of_z w32 z)) → r ≡ unsigned_in 16 z
-field_is z r f e = e ∙ ap (unsigned_in 16) (to_z-of_z w32 z f)
-
-pub weight_is : (z r : ℤ) → SFits w32 z → SFits w16 r → r ≡ signed_in 16 (to_z w32 (of_z w32 z)) → to_z w16 (of_z w16 r) ≡ signed_in 16 z
-weight_is z r f g e = to_z-of_z w16 r g ∙ e ∙ ap (signed_in 16) (to_z-of_z w32 z f)
-
 -- ---- equal rows
 
 pub same_refl : (l : List ℤ) → same_row l l ≡ true
@@ -65,15 +54,19 @@ same_true (x ∷ xs) (y ∷ ys) h =
     let f = same_true xs ys (and_right (same_number x y) (same_row xs ys) h) in
     cc
 
-pub same_snoc : (l m : List ℤ) (x y : ℤ) → length l ≡ length m → same_row (l ++ (x ∷ [])) (m ++ (y ∷ [])) ≡ same_row l m && same_number x y
-unfolding same_row
-same_snoc [] [] x y e = and-true (same_number x y)
-same_snoc [] (b ∷ m) x y e = absurd (omega (arith, e))
-same_snoc (a ∷ l) [] x y e = absurd (omega (arith, e))
-same_snoc (a ∷ l) (b ∷ m) x y e =
-    ap (λ (t : Bool). same_number a b && t) (same_snoc l m x y (omega (arith, e))) ∙ sym (and_assoc (same_number a b) (same_row l m) (same_number x y))
+-- what `==` answers of two rows
+pub same_by_eq : (l m : List ℤ) → pointwise int_eq l m ≡ same_row l m
+same_by_eq l m =
+    same_test (pointwise int_eq l m) (same_row l m)
+    (λ h. let e : l ≡ m = (signed_items l m).0 h in ap (same_row l) (sym e) ∙ same_refl l)
+    (λ h. (signed_items l m).1 (same_true l m h))
 
 -- ---- pastes
+
+-- a row that is pasted whole
+pub pasted_whole : (d s : List ℤ) (n : ℕ) → length d ≡ n → length s ≡ n → paste d 0 s n ≡ s
+pasted_whole d s n e f =
+    ap (λ (l : List ℤ). l ++ drop (0 + n) d) (take_all n s (omega arith)) ∙ ap (λ (l : List ℤ). s ++ l) (drop_of_length-le d {i = 0 + n} (omega arith)) ∙ append-nil s
 
 -- one number more is copied to the front
 pub copy_more : (s d : List ℤ) (k : ℕ) → k < length s → k < length d → set (take k s ++ drop k d) k (get_or s k (pos 0)) ≡ take (suc k) s ++ drop (suc k) d

@@ -4,52 +4,23 @@
 ghost use Rattle.std.specs.Prelude.{◌≡◌, ◌+◌, ◌*◌, ◌≤◌, length, take, drop};
 ghost use Rattle.std.proofs.Math.Seq.{paste};
 ghost use Rattle.record.specs.Blocks.{most_blocks};
-ghost use Rattle.flat.specs.Flat.{place_length, flat_length, flat_block, flat_places, flat, same_row, unsigned_in, signed_in, block_said, block_named, unnamed_record, record_in, record_beside};
+ghost use Rattle.flat.specs.Flat.{place_length, flat_length, flat_block, flat_places, flat, unsigned_in, block_said, block_named, unnamed_record, record_in, record_beside};
 
 use record::{Block, Place, Record};
 
-// How many numbers a place has, and a record: the flag, the count and its places.
+// How many numbers a place has, and a record: the flag, the count and its places. (Here and below a row stands with a place in it: `tables` has
+// records within points within rows, and a slice from there on would be cut anew at each.)
 pub const PLACE: usize = 8;
 
 const BLOCKS: usize = Record::BLOCKS as usize;
 
 pub const NUMBERS: usize = 2 + PLACE * BLOCKS;
 
-// The number where a u8 holds it, and else 0.
-fn byte(number: i32) -> u8
-    ensures { result ≡ unsigned_in 8 number }
-{
-    if 0 <= number {
-        if number <= 255 {
-            return number as u8;
-        }
-    }
-    0
-}
-
 // The number where a u16 holds it, and else 0.
 pub fn unsigned(number: i32) -> u16
     ensures { result ≡ unsigned_in 16 number }
 {
-    if 0 <= number {
-        let fits = number <= 65535;
-        if fits {
-            return number as u16;
-        }
-    }
-    0
-}
-
-// The number where an i16 holds it, and else 0.
-fn signed(number: i32) -> i16
-    ensures { result ≡ signed_in 16 number }
-{
-    if -32768 <= number {
-        if number <= 32767 {
-            return number as i16;
-        }
-    }
-    0
+    u16::try_from(number).unwrap_or(0)
 }
 
 // The eight numbers of a block: its level, or 0 for nothing, then its fields in syntax order, and zeros.
@@ -62,7 +33,16 @@ fn eight_of(block: Block) -> [i32; 8]
             min_pq,
             max_pq,
             avg_pq,
-        } => [1, min_pq as i32, max_pq as i32, avg_pq as i32, 0, 0, 0, 0],
+        } => [
+            1,
+            i32::from(min_pq),
+            i32::from(max_pq),
+            i32::from(avg_pq),
+            0,
+            0,
+            0,
+            0,
+        ],
         Block::Level2 {
             target_max_pq,
             trim_slope,
@@ -73,13 +53,13 @@ fn eight_of(block: Block) -> [i32; 8]
             ms_weight,
         } => [
             2,
-            target_max_pq as i32,
-            trim_slope as i32,
-            trim_offset as i32,
-            trim_power as i32,
-            trim_chroma_weight as i32,
-            trim_saturation_gain as i32,
-            ms_weight as i32,
+            i32::from(target_max_pq),
+            i32::from(trim_slope),
+            i32::from(trim_offset),
+            i32::from(trim_power),
+            i32::from(trim_chroma_weight),
+            i32::from(trim_saturation_gain),
+            i32::from(ms_weight),
         ],
         Block::Level5 {
             left_offset,
@@ -88,10 +68,10 @@ fn eight_of(block: Block) -> [i32; 8]
             bottom_offset,
         } => [
             5,
-            left_offset as i32,
-            right_offset as i32,
-            top_offset as i32,
-            bottom_offset as i32,
+            i32::from(left_offset),
+            i32::from(right_offset),
+            i32::from(top_offset),
+            i32::from(bottom_offset),
             0,
             0,
             0,
@@ -103,48 +83,29 @@ fn eight_of(block: Block) -> [i32; 8]
 fn block_of(eight: [i32; 8]) -> Block
     ensures { result ≡ block_said eight }
 {
-    let level = eight[0];
-    if level == 1 {
-        return Block::Level1 {
-            min_pq: unsigned(eight[1]),
-            max_pq: unsigned(eight[2]),
-            avg_pq: unsigned(eight[3]),
-        };
+    match eight {
+        [1, min, max, avg, ..] => Block::Level1 {
+            min_pq: unsigned(min),
+            max_pq: unsigned(max),
+            avg_pq: unsigned(avg),
+        },
+        [2, target, slope, offset, power, chroma, gain, weight] => Block::Level2 {
+            target_max_pq: unsigned(target),
+            trim_slope: unsigned(slope),
+            trim_offset: unsigned(offset),
+            trim_power: unsigned(power),
+            trim_chroma_weight: unsigned(chroma),
+            trim_saturation_gain: unsigned(gain),
+            ms_weight: i16::try_from(weight).unwrap_or(0),
+        },
+        [5, left, right, top, bottom, ..] => Block::Level5 {
+            left_offset: unsigned(left),
+            right_offset: unsigned(right),
+            top_offset: unsigned(top),
+            bottom_offset: unsigned(bottom),
+        },
+        _ => Block::Nothing,
     }
-    if level == 2 {
-        return Block::Level2 {
-            target_max_pq: unsigned(eight[1]),
-            trim_slope: unsigned(eight[2]),
-            trim_offset: unsigned(eight[3]),
-            trim_power: unsigned(eight[4]),
-            trim_chroma_weight: unsigned(eight[5]),
-            trim_saturation_gain: unsigned(eight[6]),
-            ms_weight: signed(eight[7]),
-        };
-    }
-    if level == 5 {
-        return Block::Level5 {
-            left_offset: unsigned(eight[1]),
-            right_offset: unsigned(eight[2]),
-            top_offset: unsigned(eight[3]),
-            bottom_offset: unsigned(eight[4]),
-        };
-    }
-    Block::Nothing
-}
-
-fn are_equal(a: [i32; 8], b: [i32; 8]) -> bool
-    ensures { result ≡ same_row a b }
-{
-    let mut equal = true;
-    let mut k: usize = 0;
-    while k < PLACE {
-        let x = a[k];
-        let y = b[k];
-        equal = equal & (x == y);
-        k += 1;
-    }
-    equal
 }
 
 // The eight numbers that stand at a place of a row.
@@ -152,25 +113,20 @@ fn eight_at(row: &[i32], at: usize) -> [i32; 8]
     requires { at + place_length ≤ length row.now }
     ensures { result ≡ take place_length (drop at row.now) }
 {
-    let mut eight: [i32; 8] = [0; 8];
-    let mut k: usize = 0;
-    while k < PLACE {
-        let x = row[at + k];
-        eight[k] = x;
-        k += 1;
+    let mut eight = [0; 8];
+    for k in 0..PLACE {
+        eight[k] = row[at + k];
     }
     eight
 }
 
+// By index, here and above: `copy_from_slice` makes the eight numbers beside the row first, and a join for C then misses its mark (docs/BENCH.md).
 fn put_eight(row: &mut [i32], at: usize, eight: [i32; 8])
     requires { at + place_length ≤ length row.old }
     ensures { row.new ≡ paste row.old at eight place_length }
 {
-    let mut k: usize = 0;
-    while k < PLACE {
-        let x = eight[k];
-        row[at + k] = x;
-        k += 1;
+    for k in 0..PLACE {
+        row[at + k] = eight[k];
     }
 }
 
@@ -181,7 +137,7 @@ pub fn get_block(row: &[i32], at: usize) -> Block
 {
     let eight = eight_at(row, at);
     let block = block_of(eight);
-    if are_equal(eight, eight_of(block)) {
+    if eight == eight_of(block) {
         return block;
     }
     Block::Nothing
@@ -192,12 +148,8 @@ fn put_places(row: &mut [i32], at: usize, r: Record)
     requires { at + flat_length ≤ length row.old }
     ensures { row.new ≡ paste row.old (at + 2) (flat_places r.places) (place_length * most_blocks) }
 {
-    let mut i: usize = 0;
-    while i < BLOCKS {
-        let place = r.places[i];
-        let block = place.block;
-        put_eight(row, at + 2 + PLACE * i, eight_of(block));
-        i += 1;
+    for (i, place) in r.places.iter().enumerate() {
+        put_eight(row, at + 2 + PLACE * i, eight_of(place.block));
     }
 }
 
@@ -206,8 +158,8 @@ pub fn put_record(row: &mut [i32], at: usize, r: Record)
     requires { at + flat_length ≤ length row.old }
     ensures { row.new ≡ paste row.old at (flat r) flat_length }
 {
-    row[at] = r.refresh as i32;
-    row[at + 1] = r.count as i32;
+    row[at] = i32::from(r.refresh);
+    row[at + 1] = i32::from(r.count);
     put_places(row, at, r);
 }
 
@@ -228,18 +180,16 @@ pub fn get_beside(row: &[i32], at: usize, beside: bool) -> Record
 {
     let flag = row[at];
     let number = row[at + 1];
-    let count = byte(number);
+    let count = u8::try_from(number).unwrap_or(0);
     let refresh = flag == 1;
     let mut r = Record::without_blocks(refresh);
     r.count = count;
-    let mut named = beside & ((flag == refresh as i32) & (number == count as i32));
-    let mut i: usize = 0;
-    while i < BLOCKS {
+    let mut named = beside & ((flag == i32::from(refresh)) & (number == i32::from(count)));
+    for (i, place) in r.places.iter_mut().enumerate() {
         let eight = eight_at(row, at + 2 + PLACE * i);
         let block = block_of(eight);
-        named = named & are_equal(eight, eight_of(block));
-        r.places[i] = Place { block };
-        i += 1;
+        named = named & (eight == eight_of(block));
+        *place = Place { block };
     }
     if named {
         return r;

@@ -6,10 +6,10 @@ ghost use Rattle.tree.specs.Bits.{bits_of};
 ghost use Rattle.tree.specs.Reading.{to_boundary};
 ghost use Rattle.tree.specs.Syntax.{read};
 ghost use Rattle.syntax.specs.Data.{announced, block_count, head};
-ghost use Rattle.head.specs.Opening.{opening_of, opening_behind, opening_took, refused_opening, from_flag, from_version, aligned_head, opening};
+ghost use Rattle.head.specs.Opening.{opening_of, opening_behind, from_flag, from_version, aligned_head, opening};
 
-use bits::Number;
-use element::Element;
+use element::{Element, Refused};
+use refusals::Refusal;
 
 // A/341, E.1: the one app_identifier and app_version that this reader knows.
 pub const IDENTIFIER: u32 = 1;
@@ -19,200 +19,103 @@ pub const VERSION: u32 = 0;
 // 02, b: up to 254 blocks may be announced.
 pub const MOST_ANNOUNCED: u32 = 254;
 
-// What stands before the blocks and how many bits it took, or why there is none.
-#[derive(Clone, Copy)]
-pub enum Opening {
-    Is {
-        refresh: bool,
-        count: u8,
-        width: usize,
-    },
-    Refused {
-        number: u8,
-        element: Element,
-        offset: u32,
-    },
+// What stands before the blocks and how many bits it took.
+#[derive(Clone, Copy, Debug, PartialEq, Eq, Hash)]
+pub struct Opening {
+    pub refresh: bool,
+    pub count: u8,
+    pub width: usize,
 }
 
-fn refuse(number: u8, element: Element, at: usize) -> Opening
-    requires { at < 2 ^ 32 }
-    ensures { result ≡ refused_opening number element at }
-{
-    Opening::Refused {
-        number,
-        element,
-        offset: at as u32,
-    }
-}
-
-// An answer, behind n bits that are taken already.
-fn behind(n: usize, rest: Opening) -> Opening
-    requires { n + opening_took rest < 2 ^ 64 }
-    ensures { result ≡ opening_behind n rest }
-{
-    match rest {
-        Opening::Refused {
-            number,
-            element,
-            offset,
-        } => Opening::Refused {
-            number,
-            element,
-            offset,
-        },
-        Opening::Is {
-            refresh,
-            count,
-            width,
-        } => Opening::Is {
-            refresh,
-            count,
-            width: n + width,
-        },
+impl Opening {
+    // The same, behind n bits that are taken already. (`block::Part` has one too: this is over a struct, that over an enum.)
+    fn behind(self, n: usize) -> Self
+        requires { n + self.width < 2 ^ 64 }
+        ensures { result ≡ opening_behind n self }
+    {
+        Opening {
+            width: n + self.width,
+            ..self
+        }
     }
 }
 
 // num_ext_blocks, which is checked when its code is complete.
-fn read_count(s: &[u8], at: usize) -> Opening
+fn read_count(s: &[u8], at: usize) -> Result<Opening, Refused>
     requires { at < 2 ^ 30 }
     ensures { result ≡ opening_of (read block_count at (drop at (bits_of s.now))) }
 {
-    match bits::read_ue(s, at, bits::MOST_ZEROS) {
-        Number::Refused { number, offset } => Opening::Refused {
-            number,
-            element: Element::NumExtBlocks,
-            offset,
-        },
-        Number::Is { value: n, width } => {
-            if n <= MOST_ANNOUNCED {
-                Opening::Is {
-                    refresh: true,
-                    count: n as u8,
-                    width,
-                }
-            } else {
-                refuse(refusals::TOO_MANY_BLOCKS, Element::NumExtBlocks, at)
-            }
-        }
+    let code = bits::read_ue(s, at, bits::MOST_ZEROS);
+    let count = code.map_err(|why| Refused::of(Element::NumExtBlocks, why))?;
+    if count.value > MOST_ANNOUNCED {
+        return Err(Refused::at(Refusal::TooManyBlocks, Element::NumExtBlocks, at));
     }
+    Ok(Opening {
+        refresh: true,
+        count: count.value as u8,
+        width: count.width,
+    })
 }
 
 // metadata_refresh_flag, and if it is 1, num_ext_blocks.
-fn read_flag(s: &[u8], at: usize) -> Opening
+fn read_flag(s: &[u8], at: usize) -> Result<Opening, Refused>
     requires { at < 2 ^ 20 }
     ensures { result ≡ opening_of (read from_flag at (drop at (bits_of s.now))) }
 {
-    match bits::read_u(s, at, 1) {
-        Number::Refused { number, offset } => Opening::Refused {
-            number,
-            element: Element::MetadataRefreshFlag,
-            offset,
-        },
-        Number::Is {
-            value: flag,
-            width: n,
-        } => {
-            if flag != 1 {
-                return Opening::Is {
-                    refresh: false,
-                    count: 0,
-                    width: n,
-                };
-            }
-            behind(n, read_count(s, at + n))
-        }
+    let bit = bits::read_u(s, at, 1);
+    let flag = bit.map_err(|why| Refused::of(Element::MetadataRefreshFlag, why))?;
+    if flag.value != 1 {
+        return Ok(Opening {
+            refresh: false,
+            count: 0,
+            width: flag.width,
+        });
     }
+    Ok(read_count(s, at + flag.width)?.behind(flag.width))
 }
 
-// app_version, and what follows it.
-fn read_version(s: &[u8], at: usize) -> Opening
+// app_version, and what follows it. (Like app_identifier, below: the must-fail edits tell the two apart by their lines.)
+fn read_version(s: &[u8], at: usize) -> Result<Opening, Refused>
     requires { at < 2 ^ 10 }
     ensures { result ≡ opening_of (read from_version at (drop at (bits_of s.now))) }
 {
-    match bits::read_ue(s, at, bits::MOST_ZEROS) {
-        Number::Refused { number, offset } => Opening::Refused {
-            number,
-            element: Element::AppVersion,
-            offset,
-        },
-        Number::Is {
-            value: version,
-            width: n,
-        } => {
-            if version != VERSION {
-                return refuse(refusals::WRONG_VERSION, Element::AppVersion, at);
-            }
-            behind(n, read_flag(s, at + n))
-        }
+    let code = bits::read_ue(s, at, bits::MOST_ZEROS);
+    let version = code.map_err(|why| Refused::of(Element::AppVersion, why))?;
+    if version.value != VERSION {
+        return Err(Refused::at(Refusal::WrongVersion, Element::AppVersion, at));
     }
+    Ok(read_flag(s, at + version.width)?.behind(version.width))
 }
 
 // app_identifier, and what follows it.
-fn read_identifier(s: &[u8]) -> Opening
+fn read_identifier(s: &[u8]) -> Result<Opening, Refused>
     ensures { result ≡ opening_of (read head 0 (bits_of s.now)) }
 {
-    match bits::read_ue(s, 0, bits::MOST_ZEROS) {
-        Number::Refused { number, offset } => Opening::Refused {
-            number,
-            element: Element::AppIdentifier,
-            offset,
-        },
-        Number::Is {
-            value: identifier,
-            width: n,
-        } => {
-            if identifier != IDENTIFIER {
-                return refuse(refusals::WRONG_IDENTIFIER, Element::AppIdentifier, 0);
-            }
-            behind(n, read_version(s, n))
-        }
+    let code = bits::read_ue(s, 0, bits::MOST_ZEROS);
+    let identifier = code.map_err(|why| Refused::of(Element::AppIdentifier, why))?;
+    if identifier.value != IDENTIFIER {
+        return Err(Refused::at(Refusal::WrongIdentifier, Element::AppIdentifier, 0));
     }
+    Ok(read_version(s, identifier.width)?.behind(identifier.width))
 }
 
-// How many bits are missing from n bits to the next byte boundary, if the test says that zero bits stand there.
+// How many bits are missing from n bits to the next byte boundary, if the test says that zero bits stand there. (What it is told is a fact of
+// the data, and no choice between two steps.)
 pub fn zeros_behind(test: bool, n: usize) -> usize
     ensures { (result ≡ cond test (to_boundary n) 0) × (result ≤ 7) }
 {
     if test { (8 - n % 8) % 8 } else { 0 }
 }
 
-// What was read before the blocks, and zero bits to the next byte boundary if there are blocks.
-fn read_padding(s: &[u8], n: usize, refresh: bool, count: u8) -> Opening
-    requires { n < 2 ^ 20 }
-    ensures { result ≡ opening_behind n (opening_of (read (aligned_head (announced refresh count)) n (drop n (bits_of s.now)))) }
-{
-    match bits::read_zeros(s, n, zeros_behind(count != 0, n)) {
-        Number::Refused { number, offset } => Opening::Refused {
-            number,
-            element: Element::DmAlignmentZeroBit,
-            offset,
-        },
-        Number::Is { width, .. } => Opening::Is {
-            refresh,
-            count,
-            width: n + width,
-        },
-    }
-}
-
 // What stands before the blocks, and zero bits to the next byte boundary if there are blocks.
-pub fn read_head(s: &[u8]) -> Opening
+pub fn read_head(s: &[u8]) -> Result<Opening, Refused>
     ensures { result ≡ opening_of (read opening 0 (bits_of s.now)) }
 {
-    match read_identifier(s) {
-        Opening::Refused {
-            number,
-            element,
-            offset,
-        } => Opening::Refused {
-            number,
-            element,
-            offset,
-        },
-        Opening::Is {
-            refresh,
-            count,
-            width,
-        } => read_padding(s, width, refresh, count),
-    }
+    let head = read_identifier(s)?;
+    let gap = bits::read_zeros(s, head.width, zeros_behind(head.count != 0, head.width));
+    let zeros = gap.map_err(|why| Refused::of(Element::DmAlignmentZeroBit, why))?;
+    Ok(Opening {
+        width: head.width + zeros.width,
+        ..head
+    })
 }

@@ -9,10 +9,11 @@ use borrow.Author.Tests.{leb-true, leb-false}
 use borrow.Rule.Slice.PartMut.{put_mid}
 use lib.ListN.{length, take, drop, set, get_or, length-append, length-drop, take-append-drop}
 use lib.Seq.{drop-append-le, drop-cons, drop-drop, length-take-le, set_at}
-use Rattle.refusals.specs.Refusals.{unfit_output, not_valid}
-use Rattle.output.specs.declared.Written.{Written}
-use Rattle.output.specs.Output.{written, fits, written_as, buffer_as}
-use Rattle.output.proofs.Output.{done, short, bad}
+use Rattle.std.specs.Prelude.{Ok, Err}
+use Rattle.refusals.specs.declared.Refusal.{Refusal}
+use Rattle.tree.proofs.Truth.{clash}
+use Rattle.output.specs.Output.{fits, outcome_as, buffer_as}
+use Rattle.output.proofs.Output.{ends_done, ends_short, ends_bad}
 use Rattle.record.specs.declared.Record.{Record}
 use Rattle.record.specs.Blocks.{most_blocks}
 use Rattle.valid.specs.Valid.{valid}
@@ -92,64 +93,63 @@ module _ (all bytes : List ℕ) (good : Bool) (is : good ≡ true → all ≡ rb
   length-all v = omega (arith, ap (length {A = ℕ}) (is v), length-append bytes trailing)
 
   -- without room for these three
-  pub no_room : (out : List ℕ) → length out < 3 → (without_room good ≡ written_as all good out) × (out ≡ buffer_as all good out)
+  pub no_room : (out : List ℕ) → length out < 3 → (Err (without_room good) ≡ outcome_as all good out) × (out ≡ buffer_as all good out)
   no_room out h = go good refl
     where
-      go : (t : Bool) → good ≡ t → (without_room good ≡ written_as all good out) × (out ≡ buffer_as all good out)
-      go true v = let x = short all good out v (omega (arith, length-all v)) in (ap without_room v ∙ x.0, x.1)
-      go false v = let x = bad all good out v in (ap without_room v ∙ x.0, x.1)
+      go : (t : Bool) → good ≡ t → (Err (without_room good) ≡ outcome_as all good out) × (out ≡ buffer_as all good out)
+      go true v = let x = ends_short all good out v (omega (arith, length-all v)) in (ap (λ (t : Bool). Err (without_room t)) v ∙ x.0, x.1)
+      go false v = let x = ends_bad all good out v in (ap (λ (t : Bool). Err (without_room t)) v ∙ x.0, x.1)
 
-  module _ (out : List ℕ) (h : 3 ≤ length out) (w : Written) (e : w ≡ written_as bytes good (part_of out)) where
+  module _ (out : List ℕ) (h : 3 ≤ length out) where
     -- where the payload is refused, so is the message, and no byte changes
-    pub refused_within : (w.result ≡ 0 → ⊥) → (w ≡ written_as all good out) × (buffer_as bytes good (part_of out) ≡ part_of out) × (out ≡ buffer_as all good out)
-    refused_within n = go good refl (fits bytes (part_of out)) refl
+    pub refused_within : (r : Refusal) → Err r ≡ outcome_as bytes good (part_of out) → (Err r ≡ outcome_as all good out) × (buffer_as bytes good (part_of out) ≡ part_of out) × (out ≡ buffer_as all good out)
+    refused_within r e = go good refl (fits bytes (part_of out)) refl
       where
-        go : (t : Bool) → good ≡ t → (u : Bool) → fits bytes (part_of out) ≡ u → (w ≡ written_as all good out) × (buffer_as bytes good (part_of out) ≡ part_of out) × (out ≡ buffer_as all good out)
+        go : (t : Bool) → good ≡ t → (u : Bool) → fits bytes (part_of out) ≡ u → (Err r ≡ outcome_as all good out) × (buffer_as bytes good (part_of out) ≡ part_of out) × (out ≡ buffer_as all good out)
         go true v true f =
-            let x = done bytes good (part_of out) v (leb-true (length bytes) (length (part_of out)) f) in
-            absurd (n (ap (λ (a : Written). a.result) (e ∙ sym x.0)))
+            let x = ends_done bytes good (part_of out) v (leb-true (length bytes) (length (part_of out)) f) in
+            let a = e ∙ sym x.0 in
+            let z : ◌≡◌ {A = ℕ} 0 1 = cc in clash z
         go true v false f =
             let l = leb-false (length bytes) (length (part_of out)) f in
-            let x = short bytes good (part_of out) v l in
-            let y = short all good out v (omega (arith, l, length_part out h, length-all v)) in
+            let x = ends_short bytes good (part_of out) v l in
+            let y = ends_short all good out v (omega (arith, l, length_part out h, length-all v)) in
             (e ∙ sym x.0 ∙ y.0, sym x.1, y.1)
         go false v u f =
-            let x = bad bytes good (part_of out) v in
-            let y = bad all good out v in
+            let x = ends_bad bytes good (part_of out) v in
+            let y = ends_bad all good out v in
             (e ∙ sym x.0 ∙ y.0, sym x.1, y.1)
 
-    module _ (n : w.result ≡ 0) where
+    module _ (n : ℕ) (e : Ok n ≡ outcome_as bytes good (part_of out)) where
       -- where it is written, it was valid, and it fits with the three bytes
-      pub written_within : (good ≡ true) × (w.bytes ≡ length bytes) × (length bytes + 3 ≤ length out)
+      pub written_within : (good ≡ true) × (n ≡ length bytes) × (length bytes + 3 ≤ length out)
       written_within = go good refl (fits bytes (part_of out)) refl
         where
-          go : (t : Bool) → good ≡ t → (u : Bool) → fits bytes (part_of out) ≡ u → (good ≡ true) × (w.bytes ≡ length bytes) × (length bytes + 3 ≤ length out)
+          go : (t : Bool) → good ≡ t → (u : Bool) → fits bytes (part_of out) ≡ u → (good ≡ true) × (n ≡ length bytes) × (length bytes + 3 ≤ length out)
           go true v true f =
               let l = leb-true (length bytes) (length (part_of out)) f in
-              let x = done bytes good (part_of out) v l in
-              (v, ap (λ (a : Written). a.bytes) (e ∙ sym x.0), omega (arith, l, length_part out h))
+              let a = e ∙ sym (ends_done bytes good (part_of out) v l).0 in
+              (v, cc, omega (arith, l, length_part out h))
           go true v false f =
-              let x = short bytes good (part_of out) v (leb-false (length bytes) (length (part_of out)) f) in
-              let b : w.result ≡ unfit_output = ap (λ (a : Written). a.result) (e ∙ sym x.0) in
-              absurd (omega (arith, b, n))
+              let a = e ∙ sym (ends_short bytes good (part_of out) v (leb-false (length bytes) (length (part_of out)) f)).0 in
+              let z : ◌≡◌ {A = ℕ} 0 1 = cc in clash z
           go false v u f =
-              let x = bad bytes good (part_of out) v in
-              let b : w.result ≡ not_valid = ap (λ (a : Written). a.result) (e ∙ sym x.0) in
-              absurd (omega (arith, b, n))
+              let a = e ∙ sym (ends_bad bytes good (part_of out) v).0 in
+              let z : ◌≡◌ {A = ℕ} 0 1 = cc in clash z
 
       -- and the stores make the message of it
       pub message_stored : (p : List ℕ) → p ≡ buffer_as bytes good (part_of out)
-          → (written 0 (w.bytes + 3) ≡ written_as all good out)
-          × (set (set (set (put_mid 2 (length out - 1 - 2) out p) 0 4) 1 w.bytes) (w.bytes + 2) 0x80 ≡ buffer_as all good out)
+          → (Ok (n + 3) ≡ outcome_as all good out)
+          × (set (set (set (put_mid 2 (length out - 1 - 2) out p) 0 4) 1 n) (n + 2) 0x80 ≡ buffer_as all good out)
       message_stored p q =
           let x = written_within in
           let v = x.0 in
           let a = length-all v in
-          let y = done bytes good (part_of out) v (omega (arith, x.2, length_part out h)) in
-          let z = done all good out v (omega (arith, x.2, a)) in
-          let c : w.bytes + 3 ≡ length all = omega (arith, x.1, a) in
+          let y = ends_done bytes good (part_of out) v (omega (arith, x.2, length_part out h)) in
+          let z = ends_done all good out v (omega (arith, x.2, a)) in
+          let c : n + 3 ≡ length all = omega (arith, x.1, a) in
           let m : length bytes + 3 ≡ length all = omega (arith, a) in (
-            ap (written 0) c ∙ z.0,
+            ap (λ (k : ℕ). Ok k) c ∙ z.0,
             ap (λ (k : ℕ). set (set (set (put_mid 2 (length out - 1 - 2) out p) 0 4) 1 k) (k + 2) 0x80) x.1
                 ∙ ap (λ (l : List ℕ). set (set (set (put_mid 2 (length out - 1 - 2) out l) 0 4) 1 (length bytes)) (length bytes + 2) 0x80) (q ∙ sym y.1)
                 ∙ stored bytes out x.2

@@ -1,7 +1,10 @@
--- What the functions on messages answer, and on the way to it: places in the bytes s.
-use Rattle.std.specs.Prelude.{ℕ, ◌+◌, ◌≤◌, cond, List, [], ◌∷◌, leb, length, take, drop}
-use Rattle.std.proofs.Math.Option.{Option, none, some}
+-- What the functions on messages answer, and on the way to it: parts of the bytes s.
+use Rattle.std.specs.Prelude.{ℕ, ◌+◌, cond, List, [], ◌∷◌, take, drop, Option, None, Some, Result, Ok, Err}
+use Rattle.std.specs.Borrow.{Bor}
+use Rattle.std.proofs.Math.Option.{Option as Maybe, none, some}
 use Rattle.refusals.specs.Refusals.{broken_messages, none_of_ours}
+use Rattle.refusals.specs.declared.Refusal.{Refusal}
+use Rattle.refusals.specs.declared.Refusal.TheVariants.{BrokenMessages, NoneOfOurs}
 use Rattle.output.specs.declared.Written.{Written}
 use Rattle.output.specs.Output.{written_as, buffer_as}
 use Rattle.record.specs.declared.Record.{Record}
@@ -9,75 +12,55 @@ use Rattle.valid.specs.Valid.{valid}
 use Rattle.reader.specs.declared.Reading.{Reading}
 use Rattle.reader.specs.Reading.{unplaced}
 use Rattle.wrapper.specs.Wrapper.{read_wrapped}
-use Rattle.rbsp.specs.Message.{Message, Chain, counts, past, Frame, frame, no_frame, message, messages_in, is_ours, first_of_ours, our_message, sei_rbsp}
-use Rattle.messages.specs.declared.Number.{Number}
-use Rattle.messages.specs.declared.Number.TheVariants as number
-use Rattle.messages.specs.declared.Framed.{Framed}
-use Rattle.messages.specs.declared.Framed.TheVariants as framed
-use Rattle.messages.specs.declared.First.{First}
-use Rattle.messages.specs.declared.Found.{Found}
-use Rattle.messages.specs.declared.Found.TheVariants as found
+use Rattle.rbsp.specs.Message.{Message, Chain, counts, past, Frame, frame, no_frame, messages_in, is_ours, first_of_ours, our_message, sei_rbsp}
 
--- a type or a size, with the place behind it
-abbrev pub number_at : ℕ → Chain → Number
-number_at at past = number.PastEnd
-number_at at (counts v n) = number.Is v (at + n)
+-- a type or a size, and the bytes behind it, if they do not end within it
+abbrev pub number_in : List ℕ → Chain → Option (ℕ × List ℕ)
+number_in s past = None
+number_in s (counts v n) = Some (v, drop n s)
 
--- a message, with the place of its content
-abbrev pub framed_at : ℕ → Frame → Framed
-framed_at at no_frame = framed.PastEnd
-framed_at at (frame t head size) = framed.Is t (at + head) size
+-- a message: its type, its content and the bytes behind it, if they do not end within it
+abbrev pub message_at : List ℕ → Frame → Option (ℕ × List ℕ × List ℕ)
+message_at s no_frame = None
+message_at s (frame t head size) = Some (t, take size (drop head s), drop (head + size) s)
 
--- behind its type, by its size
-abbrev pub sized_at : ℕ → Number → List ℕ → Framed
-sized_at t number.PastEnd s = framed.PastEnd
-sized_at t (number.Is size start) s = cond (leb (start + size) (length s)) (framed.Is t start size) framed.PastEnd
+-- the content of our first message; or none is ours, or the bytes are no messages
+abbrev pub first_content : Maybe Message → Result (List ℕ) Refusal
+first_content none = Err NoneOfOurs
+first_content (some m) = Ok m.content
 
--- the bytes of which an answer tells the place
-abbrev pub content_at : List ℕ → ℕ → ℕ → List ℕ
-content_at s start size = take size (drop start s)
-
--- the first of ours so far
-abbrev pub first_in : List ℕ → First → Option (List ℕ)
-first_in s f = cond f.there (some (content_at s f.start f.size)) none
+abbrev pub ours_in : Maybe (List Message) → Result (List ℕ) Refusal
+ours_in none = Err BrokenMessages
+ours_in (some ms) = first_content (first_of_ours ms)
 
 -- the first where there is one, and else the content of a message if it is ours
 abbrev pub or_ours : Option (List ℕ) → Message → Option (List ℕ)
-or_ours none m = cond (is_ours m) (some m.content) none
-or_ours (some c) m = some c
+or_ours None m = cond (is_ours m) (Some m.content) None
+or_ours (Some c) m = Some c
 
-abbrev pub found_first : First → Found
-found_first f = cond f.there (found.At f.start f.size) found.Nothing
+-- what the code gives of these, with the bytes for the slices of them
+abbrev pub number_read : Option (ℕ × Bor (List ℕ)) → Option (ℕ × List ℕ)
+number_read None = None
+number_read (Some x) = Some (x.0, x.1.now)
 
--- its place lies in the bytes
-abbrev pub FirstWithin : List ℕ → First → Type 0
-FirstWithin s f = f.start + f.size ≤ length s
+abbrev pub message_read : Option (ℕ × Bor (List ℕ) × Bor (List ℕ)) → Option (ℕ × List ℕ × List ℕ)
+message_read None = None
+message_read (Some x) = Some (x.0, x.1.now, x.2.now)
 
-abbrev pub FoundWithin : List ℕ → Found → Type 0
-FoundWithin s found.Broken = Unit {0}
-FoundWithin s found.Nothing = Unit {0}
-FoundWithin s (found.At start size) = start + size ≤ length s
+abbrev pub first_read : Option (Bor (List ℕ)) → Option (List ℕ)
+first_read None = None
+first_read (Some c) = Some c.now
 
--- the content of our first message, or none is ours, or the bytes are no messages
-abbrev pub content_in : Option Message → Option (List ℕ)
-content_in none = none
-content_in (some m) = some m.content
-
-abbrev pub ours_among : Option (List Message) → Option (Option (List ℕ))
-ours_among none = none
-ours_among (some ms) = some (content_in (first_of_ours ms))
-
-abbrev pub stands_at : List ℕ → Found → Option (Option (List ℕ))
-stands_at s found.Broken = none
-stands_at s found.Nothing = some none
-stands_at s (found.At start size) = some (some (content_at s start size))
+abbrev pub content_found : Result (Bor (List ℕ)) Refusal → Result (List ℕ) Refusal
+content_found (Ok c) = Ok c.now
+content_found (Err r) = Err r
 
 -- 02, a: our first message goes to the reader of wrapped data, whose answer stands; 02, e: a refusal of the unit itself has no place
-abbrev pub read_first : Option Message → Reading
+abbrev pub read_first : Maybe Message → Reading
 read_first none = unplaced none_of_ours
 read_first (some m) = read_wrapped m.content
 
-abbrev pub read_ours : Option (List Message) → Reading
+abbrev pub read_ours : Maybe (List Message) → Reading
 read_ours none = unplaced broken_messages
 read_ours (some ms) = read_first (first_of_ours ms)
 

@@ -1,13 +1,16 @@
 // The messages of an SEI unit, in its bytes without emulation bytes (H.265, 7.3.2.4 and 7.3.5): ours is found and read, or written.
 #![tactic(auto)]
 
-ghost use Rattle.std.specs.Prelude.{◌≡◌, ◌+◌, ◌≤◌, ◌<◌, ◌^◌, length, drop};
-ghost use Rattle.rbsp.specs.Message.{chain, frame_of, is_end, message, messages_in};
-ghost use Rattle.messages.specs.Answer.{number_at, framed_at, sized_at, content_at, first_in, or_ours, found_first, FirstWithin, FoundWithin, ours_among, stands_at, read_messages, write_message, message_buffer};
+ghost use Rattle.std.specs.Prelude.{◌≡◌, ◌<◌, ◌^◌, length};
+ghost use Rattle.output.specs.Output.{outcome_as};
+ghost use Rattle.valid.specs.Valid.{valid};
+ghost use Rattle.rbsp.specs.Message.{chain, frame_of, is_end, is_ours, message, messages_in};
+ghost use Rattle.messages.specs.Answer.{number_in, number_read, message_at, message_read, first_read, or_ours, ours_in, content_found, read_messages, message_rbsp, write_message, message_buffer};
 
 use output::Written;
 use reader::Reading;
 use record::Record;
+use refusals::Refusal;
 
 // Each of these bytes before the last one counts 255.
 const FF_BYTE: u8 = 0xFF;
@@ -21,163 +24,67 @@ const TRAILING: u8 = 0x80;
 // How many bytes always suffice for our message: its type, its size, the largest wrapped payload and the trailing byte.
 pub const BYTES: usize = Record::WRAPPED_BYTES + 3;
 
-// A type or a size and the place behind it, or the bytes end within it.
-#[derive(Clone, Copy)]
-enum Number {
-    PastEnd,
-    Is { value: usize, next: usize },
-}
-
-// A message that is there whole, or the bytes end within it.
-#[derive(Clone, Copy)]
-enum Framed {
-    PastEnd,
-    Is {
-        kind: usize,
-        start: usize,
-        size: usize,
-    },
-}
-
-// Where the first of our messages has its content, if there is one so far.
-#[derive(Clone, Copy)]
-struct First {
-    there: bool,
-    start: usize,
-    size: usize,
-}
-
-// The same once the bytes are known to be messages, or they are none.
-#[derive(Clone, Copy)]
-enum Found {
-    Broken,
-    Nothing,
-    At { start: usize, size: usize },
-}
-
-// A type or a size from a place on.
-fn read_number(s: &[u8], from: usize) -> Number
+// A type or a size, and the bytes behind it; none if the bytes end within it.
+fn read_number(s: &[u8]) -> Option<(usize, &[u8])>
     requires { length s.now < 2 ^ 32 }
-    ensures { result ≡ number_at from (chain (drop from s.now)) }
+    ensures { number_read result ≡ number_in s.now (chain s.now) }
 {
-    let mut sum: usize = 0;
-    let mut at = from;
-    while at < s.len() {
-        let b = s[at];
-        at += 1;
-        if b != FF_BYTE {
-            return Number::Is {
-                value: sum + b as usize,
-                next: at,
-            };
-        }
-        sum += 255;
-    }
-    Number::PastEnd
+    let n = s.iter().position(|&b| b != FF_BYTE)?;
+    Some((255 * n + usize::from(s[n]), &s[n + 1..]))
 }
 
-// The size of a message whose type is known, and whether its content is there.
-fn read_size(s: &[u8], kind: usize, at: usize) -> Framed
+// A message: its type, its content and the bytes behind it; none if the bytes end within it.
+fn read_message(s: &[u8]) -> Option<(usize, &[u8], &[u8])>
     requires { length s.now < 2 ^ 32 }
-    ensures { result ≡ sized_at kind (number_at at (chain (drop at s.now))) s.now }
+    ensures { message_read result ≡ message_at s.now (frame_of s.now) }
 {
-    match read_number(s, at) {
-        Number::PastEnd => Framed::PastEnd,
-        Number::Is {
-            value: size,
-            next: start,
-        } => {
-            if s.len() - start < size {
-                return Framed::PastEnd;
-            }
-            Framed::Is { kind, start, size }
-        }
-    }
+    let (kind, sized) = read_number(s)?;
+    let (size, left) = read_number(sized)?;
+    let (content, behind) = left.split_at_checked(size)?;
+    Some((kind, content, behind))
 }
 
-// A message from a place on.
-fn read_message(s: &[u8], at: usize) -> Framed
-    requires { length s.now < 2 ^ 32 }
-    ensures { result ≡ framed_at at (frame_of (drop at s.now)) }
+// Whether a message is ours. A unit can hold thousands of messages that are shorter than the wrapper: these are not even looked into.
+// (A type stays the number that the unit holds: all but ours are alike.)
+fn is_ours(kind: usize, content: &[u8]) -> bool
+    ensures { result ≡ is_ours (message kind content.now) }
 {
-    match read_number(s, at) {
-        Number::PastEnd => Framed::PastEnd,
-        Number::Is { value: kind, next } => read_size(s, kind, next),
-    }
-}
-
-// Whether the single byte 80 is all that stands from a place on.
-fn ends_at(s: &[u8], at: usize) -> bool
-    requires { at ≤ length s.now }
-    ensures { result ≡ is_end (drop at s.now) }
-{
-    if s.len() - at != 1 {
-        return false;
-    }
-    s[at] == TRAILING
+    let short = content.len() < wrapper::WRAPPER_BYTES;
+    (kind == REGISTERED) & !short && wrapper::has_wrapper(content)
 }
 
 // The first of ours, behind one more message.
-fn note_message(s: &[u8], first: First, kind: usize, start: usize, size: usize) -> First
-    requires { FirstWithin s.now first × (start + size ≤ length s.now) }
-    ensures { (first_in s.now result ≡ or_ours (first_in s.now first) (message kind (content_at s.now start size))) × FirstWithin s.now result }
+fn or_ours<'a>(first: Option<&'a [u8]>, kind: usize, content: &'a [u8]) -> Option<&'a [u8]>
+    ensures { first_read result ≡ or_ours (first_read first.entry) (message kind content.now) }
 {
-    if first.there | (kind != REGISTERED) {
-        return first;
+    match first {
+        Some(_) => first,
+        None => is_ours(kind, content).then_some(content),
     }
-    // A unit can hold thousands of messages that are shorter than the wrapper: these are not even looked into.
-    let short = size < wrapper::WRAPPER_BYTES;
-    if short {
-        return first;
-    }
-    let end = start + size;
-    if wrapper::has_wrapper(&s[start..end]) {
-        return First {
-            there: true,
-            start,
-            size,
-        };
-    }
-    first
 }
 
-// What is known once all messages are.
-fn found_first(first: First) -> Found
-    ensures { result ≡ found_first first }
+// Whether the single byte 80 is all that is left.
+fn is_end(s: &[u8]) -> bool
+    ensures { result ≡ is_end s.now }
 {
-    if first.there {
-        return Found::At {
-            start: first.start,
-            size: first.size,
-        };
-    }
-    Found::Nothing
+    matches!(*s, [TRAILING])
 }
 
-// All messages are read, also behind ours: a later one that is not whole refuses the unit.
-fn find_ours(s: &[u8]) -> Found
+// The content of our first message. All messages are read, also behind ours: a later one that is not whole refuses the unit.
+// (A loop: one message behind another, left by `?`; a chain would hold its state in a closure.)
+fn find_ours(s: &[u8]) -> Result<&[u8], Refusal>
     requires { length s.now < 2 ^ 32 }
-    ensures { (stands_at s.now result ≡ ours_among (messages_in s.now)) × FoundWithin s.now result }
+    ensures { content_found result ≡ ours_in (messages_in s.now) }
 {
-    let mut first = First {
-        there: false,
-        start: 0,
-        size: 0,
-    };
-    let mut at: usize = 0;
+    let mut first: Option<&[u8]> = None;
+    let mut rest = s;
     loop {
-        match read_message(s, at) {
-            Framed::PastEnd => {
-                return Found::Broken;
-            }
-            Framed::Is { kind, start, size } => {
-                first = note_message(s, first, kind, start, size);
-                at = start + size;
-                if ends_at(s, at) {
-                    return found_first(first);
-                }
-            }
+        let (kind, content, behind) = read_message(rest).ok_or(Refusal::BrokenMessages)?;
+        first = or_ours(first, kind, content);
+        if is_end(behind) {
+            return first.ok_or(Refusal::NoneOfOurs);
         }
+        rest = behind;
     }
 }
 
@@ -187,12 +94,8 @@ pub fn read_messages(s: &[u8]) -> Reading
     ensures { result ≡ read_messages s.now }
 {
     match find_ours(s) {
-        Found::Broken => reader::unplaced(refusals::BROKEN_MESSAGES),
-        Found::Nothing => reader::unplaced(refusals::NONE_OF_OURS),
-        Found::At { start, size } => {
-            let end = start + size;
-            wrapper::read_wrapped(&s[start..end])
-        }
+        Ok(content) => wrapper::read_wrapped(content),
+        Err(refusal) => reader::unplaced(refusal.number()),
     }
 }
 
@@ -201,20 +104,21 @@ pub fn write_message(r: Record, out: &mut [u8]) -> Written
     ensures result { result ≡ write_message r out.old }
     ensures buffer { out.new ≡ message_buffer r out.old }
 {
+    try_write(r, out).into()
+}
+
+// The same on the way to the answer: the bytes written, or which refusal.
+pub fn try_write(r: Record, out: &mut [u8]) -> Result<usize, Refusal>
+    ensures result { result ≡ outcome_as (message_rbsp r) (valid r) out.old }
+    ensures buffer { out.new ≡ message_buffer r out.old }
+{
     if out.len() < 3 {
-        return wrapper::without_room(valid::is_valid(r));
+        return Err(wrapper::without_room(valid::is_valid(r)));
     }
     let end = out.len() - 1;
-    let data = wrapper::write_wrapped(r, &mut out[2..end]);
-    if data.result != 0 {
-        return data;
-    }
-    let n = data.bytes;
+    let n = wrapper::try_write(r, &mut out[2..end])?;
     out[0] = REGISTERED as u8;
     out[1] = n as u8;
     out[n + 2] = TRAILING;
-    Written {
-        result: 0,
-        bytes: n + 3,
-    }
+    Ok(n + 3)
 }

@@ -31,6 +31,7 @@ name_of ExtDmAlignmentZeroBit = "ext_dm_alignment_zero_bit"
 name_of End = "end"
 name_of Wrapper = "wrapper"
 
--- where each name begins, if all stand in a row with a blank behind each, and where the row ends
+-- where each name begins, if all stand in a row with a blank behind each, and where the row ends: a row from which the names can be taken
+-- (name/Laws: stands)
 abbrev pub starts : List ℕ
 starts = 0 ∷ 1 ∷ 16 ∷ 28 ∷ 50 ∷ 65 ∷ 87 ∷ 104 ∷ 120 ∷ 127 ∷ 134 ∷ 141 ∷ 155 ∷ 166 ∷ 178 ∷ 189 ∷ 208 ∷ 229 ∷ 239 ∷ 263 ∷ 288 ∷ 311 ∷ 337 ∷ 363 ∷ 367 ∷ 375 ∷ []

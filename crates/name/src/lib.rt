@@ -1,34 +1,51 @@
-// The names of what a refusal is about, typed into a lent buffer.
+// The names of what a refusal is about, typed on a page.
 #![tactic(auto)]
 
-ghost use Rattle.std.specs.Prelude.{◌≡◌, ◌<◌, get_or};
+ghost use Rattle.std.specs.Prelude.{◌≡◌};
 ghost use Rattle.text.specs.Text.{ascii};
-ghost use Rattle.text.specs.Typing.{RoomForText, Typed};
-ghost use Rattle.name.specs.Name.{name_of, starts};
+ghost use Rattle.text.specs.Page.{HasRoom, TypedOn};
+ghost use Rattle.name.specs.Name.{name_of};
 
 use element::Element;
+use text::Page;
 
-// Where the word k of the names below begins.
-fn start_of(k: usize) -> usize
-    requires { k < 26 }
-    ensures { result ≡ get_or starts k 0 }
+// As A/341 has it.
+fn name_of(e: Element) -> &'static [u8]
+    ensures { result.now ≡ ascii (name_of e) }
 {
-    let starts: [usize; 26] = [
-        0, 1, 16, 28, 50, 65, 87, 104, 120, 127, 134, 141, 155, 166, 178, 189, 208, 229, 239, 263,
-        288, 311, 337, 363, 367, 375,
-    ];
-    starts[k]
+    match e {
+        Element::Nothing => b"",
+        Element::AppIdentifier => b"app_identifier",
+        Element::AppVersion => b"app_version",
+        Element::MetadataRefreshFlag => b"metadata_refresh_flag",
+        Element::NumExtBlocks => b"num_ext_blocks",
+        Element::DmAlignmentZeroBit => b"dm_alignment_zero_bit",
+        Element::ExtBlockLength => b"ext_block_length",
+        Element::ExtBlockLevel => b"ext_block_level",
+        Element::MinPq => b"min_PQ",
+        Element::MaxPq => b"max_PQ",
+        Element::AvgPq => b"avg_PQ",
+        Element::TargetMaxPq => b"target_max_PQ",
+        Element::TrimSlope => b"trim_slope",
+        Element::TrimOffset => b"trim_offset",
+        Element::TrimPower => b"trim_power",
+        Element::TrimChromaWeight => b"trim_chroma_weight",
+        Element::TrimSaturationGain => b"trim_saturation_gain",
+        Element::MsWeight => b"ms_weight",
+        Element::ActiveAreaLeftOffset => b"active_area_left_offset",
+        Element::ActiveAreaRightOffset => b"active_area_right_offset",
+        Element::ActiveAreaTopOffset => b"active_area_top_offset",
+        Element::ActiveAreaBottomOffset => b"active_area_bottom_offset",
+        Element::ExtDmAlignmentZeroBit => b"ext_dm_alignment_zero_bit",
+        Element::End => b"end",
+        Element::Wrapper => b"wrapper",
+    }
 }
 
-// Its name, as A/341 has it; a blank stands behind each. A match with a call in each arm would be checked for minutes.
-pub fn put_name(out: &mut [u8], at: usize, e: Element) -> usize
-    requires { RoomForText out.old at (ascii (name_of e)) }
-    ensures { Typed out.old at (ascii (name_of e)) out.new result }
+// Types its name.
+pub fn put_name(page: &mut Page, e: Element)
+    requires { HasRoom page.old (ascii (name_of e)) }
+    ensures { TypedOn page.old (ascii (name_of e)) page.new }
 {
-    let names: &[u8] =
-        b" app_identifier app_version metadata_refresh_flag num_ext_blocks dm_alignment_zero_bit ext_block_length ext_block_level min_PQ max_PQ avg_PQ target_max_PQ trim_slope trim_offset trim_power trim_chroma_weight trim_saturation_gain ms_weight active_area_left_offset active_area_right_offset active_area_top_offset active_area_bottom_offset ext_dm_alignment_zero_bit end wrapper ";
-    let k = element::number_of(e) as usize;
-    let start = start_of(k);
-    let end = start_of(k + 1) - 1;
-    text::put_text(out, at, &names[start..end])
+    page.put_text(name_of(e));
 }

@@ -8,15 +8,13 @@ use std::io;
 use std::io::Write;
 
 // Where a payload is refused, if it is: at which bit of the data, or at which byte of the wrapper.
-fn place<W: Write>(out: &mut W, res: u8, offset: u32, in_wrapper: bool) -> io::Result<()> {
-    if res == 0 {
+fn place<W: Write>(out: &mut W, reading: Reading) -> io::Result<()> {
+    if reading.result == 0 {
         return Ok(());
     }
-    if in_wrapper {
-        writeln!(out, "byte={offset}")
-    } else {
-        writeln!(out, "bit={offset}")
-    }
+    let unit = if reading.in_wrapper { "byte" } else { "bit" };
+    let offset = reading.offset;
+    writeln!(out, "{unit}={offset}")
 }
 
 fn outcome<W: Write>(out: &mut W, name: &[u8], form: &[u8], reading: Reading) -> io::Result<()> {
@@ -25,7 +23,7 @@ fn outcome<W: Write>(out: &mut W, name: &[u8], form: &[u8], reading: Reading) ->
     let mut text = [0u8; listing::BYTES];
     let listed = listing::write_listing(reading, &mut text);
     out.write_all(&text[..listed.bytes])?;
-    place(out, reading.result, reading.offset, reading.in_wrapper)
+    place(out, reading)
 }
 
 fn wrapped<W: Write>(out: &mut W, name: &[u8], input: &[u8]) -> io::Result<()> {

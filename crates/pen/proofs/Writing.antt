@@ -1,21 +1,28 @@
 -- Laws of the pen: one bit, one writing behind another, and that a statement of what was written admits one answer.
-use Prim.Native.Nat.{ℕ, suc, ◌+◌, ◌-◌, ◌*◌, ◌/◌, ◌%◌, ◌^◌, ◌<◌, ◌≤◌}
+use Prim.Native.Nat.{ℕ, zero, suc, ◌+◌, ◌-◌, ◌*◌, ◌/◌, ◌%◌, ◌^◌, ◌<◌, ◌≤◌}
 use mathlib.Core.Path.{◌≡◌, refl, ap, sym, ◌∙◌}
 use mathlib.Core.List.{List, [], ◌∷◌, ◌++◌, append_assoc, append-nil}
 use mathlib.Core.Bool.{Bool, true, false}
 use native.Mathlib.Omega.{arith}
 use native.Mathlib.Numerals.{add-one}
-use native.Mathlib.Nat.{pow-succ', div-one, add-mul, mul_assoc, mod-lt}
-use lib.ListN.{length, take, drop, set, replicate, length-set, length-append, length-take, take-append-drop}
+use native.Mathlib.Nat.{pow-succ', add-mul, mul_assoc}
+use lib.ListN.{length, take, drop, set, replicate, length-replicate, length-set, length-append, length-take, take-append-drop}
 use lib.Seq.{take-suc-set, drop-set-lt, take_at, drop_at}
-use lib.Pow.{shr-shr, pow_mono, pow_pos, split}
+use lib.Pow.{shr-shr, pow_pos}
+use lib.IntN.{ℤ, pos, negsuc}
+use mir.Syntax.{w32}
+use mir.Val.{of_z}
+use borrow.Author.Tests.{ltb-true}
+use Rattle.std.proofs.Math.Bridge.{le_prop}
+use Rattle.std.proofs.Common.{pow-add}
+use Rattle.tree.specs.Coding.{signed, holds, complement}
 use Rattle.tree.specs.Bits.{bits_of, code, odd, value, value_from, bit, Bytes}
 use Rattle.tree.specs.Codes.{zeros_of, ue_code}
 use Rattle.tree.proofs.Lists.{later_on, bytes_take}
 use Rattle.tree.proofs.Bits.{length-code, length_bits, bits_append, bits_determine, code-value, value-code}
-use Rattle.tree.proofs.Elements.{zeros_law, zeros_is}
+use Rattle.tree.proofs.Elements.{zeros_law, zeros_few, length-ue}
 use Rattle.pen.specs.declared.Pen.{Pen}
-use Rattle.pen.specs.Writing.{bits_written, start_pen, Sound, RoomForBits, Wrote}
+use Rattle.pen.specs.Writing.{bits_written, RoomForBits, Wrote}
 
 odd-mod : (v : ℕ) → odd (v % 2) ≡ odd v
 odd-mod v = let h : v % 2 % 2 ≡ v % 2 = omega arith in rw h
@@ -28,49 +35,29 @@ code_more k v b h =
     let m : (v * 2 + b) % 2 ≡ b % 2 = omega arith in
     rw (add-one k, d, m)
 
-pub start_sound : Sound start_pen
-start_sound = record { few = omega arith; small = omega arith }
-
--- fewer than 8 bits wait, so that another one fits
-pub small : (pen : Pen) → Sound pen → pen.bits < 128
-small pen s =
-    let p : 2 ^ pen.waiting ≤ 2 ^ 7 = pow_mono {j = 7} (seven pen.waiting s.few) in
-    omega (arith, s.small, p)
-  where
-    seven : (k : ℕ) → k < 8 → k ≤ 7
-    seven k h = omega arith
-
 -- a bit that waits
-pub held_bit : (out : List ℕ) (pen : Pen) (b : ℕ) → Sound pen → b < 2 → (pen.waiting ≡ 7 → ⊥)
-    → Wrote out pen (odd b ∷ []) out (record { at = pen.at; waiting = pen.waiting + 1; bits = pen.bits * 2 + b })
-held_bit out pen b s h e = record {
-  up_to = rw (code_more pen.waiting pen.bits b h) (sym (append_assoc (bits_of (take pen.at out)) (code pen.waiting pen.bits) (odd b ∷ [])));
-  sound = record {
-    few = room pen.waiting s.few e;
-    small = rw (add-one pen.waiting, pow-succ' 2 pen.waiting) (omega (arith, s.small));
-  };
+pub held_bit : (out : List ℕ) (pen pen' : Pen) (b : ℕ) → b < 2 → pen'.at ≡ pen.at → pen'.waiting ≡ pen.waiting + 1 → pen'.bits ≡ pen.bits * 2 + b
+    → Wrote out pen (odd b ∷ []) out pen'
+held_bit out pen pen' b h a k v = record {
+  up_to = rw (a, k, v, code_more pen.waiting pen.bits b h) (sym (append_assoc (bits_of (take pen.at out)) (code pen.waiting pen.bits) (odd b ∷ [])));
   later = refl;
   same = refl;
   place = omega arith;
 }
-  where
-    room : (k : ℕ) → k < 8 → (k ≡ 7 → ⊥) → k + 1 < 8
-    room k f e = omega arith
 
 -- the eighth bit
-pub stored_bit : (out : List ℕ) (pen : Pen) (b : ℕ) → b < 2 → pen.waiting ≡ 7 → pen.at < length out
-    → Wrote out pen (odd b ∷ []) (set out pen.at (pen.bits * 2 + b)) (record { at = pen.at + 1; waiting = 0; bits = 0 })
+pub stored_bit : (out : List ℕ) (pen pen' : Pen) (b : ℕ) → b < 2 → pen.waiting ≡ 7 → pen.at < length out → pen'.at ≡ pen.at + 1 → pen'.waiting ≡ 0 → pen'.bits ≡ 0
+    → Wrote out pen (odd b ∷ []) (set out pen.at (pen.bits * 2 + b)) pen'
 unfolding code bits_of
-stored_bit out pen b h e l =
+stored_bit out pen pen' b h e l f k v =
     let a = pen.bits * 2 + b in
     let m : code 8 a ≡ code 7 pen.bits ++ (odd b ∷ []) = code_more 7 pen.bits b h in
     let one : bits_of (a ∷ []) ≡ code 8 a = append-nil (code 8 a) in
     record {
-      up_to = append-nil (bits_of (take (pen.at + 1) (set out pen.at a)))
+      up_to = rw (f, k) (append-nil (bits_of (take (pen.at + 1) (set out pen.at a)))
           ∙ rw (add-one pen.at, take-suc-set out pen.at a l, bits_append (take pen.at out) (a ∷ []), one, m, e)
-          (sym (append_assoc (bits_of (take pen.at out)) (code 7 pen.bits) (odd b ∷ [])));
-      sound = record { few = omega arith; small = omega arith };
-      later = drop-set-lt (pen.at + 1) out pen.at a (omega arith);
+          (sym (append_assoc (bits_of (take pen.at out)) (code 7 pen.bits) (odd b ∷ []))));
+      later = rw f (drop-set-lt (pen.at + 1) out pen.at a (omega arith));
       same = length-set out pen.at a;
       place = omega arith;
     }
@@ -79,16 +66,14 @@ stored_bit out pen b h e l =
 pub wrote_then : {o₀ o₁ o₂ : List ℕ} {p₀ p₁ p₂ : Pen} {bs cs : List Bool} → Wrote o₀ p₀ bs o₁ p₁ → Wrote o₁ p₁ cs o₂ p₂ → Wrote o₀ p₀ (bs ++ cs) o₂ p₂
 wrote_then {o₀} {o₁} {o₂} {p₀} {p₁} {p₂} {bs} {cs} p q = record {
   up_to = q.up_to ∙ rw p.up_to (append_assoc (bits_written o₀ p₀) bs cs);
-  sound = q.sound;
-  later = q.later ∙ later_on p₁.at p₂.at o₁ o₀ (omega (arith, q.place, q.sound.few, p.sound.few)) p.later;
+  later = q.later ∙ later_on p₁.at p₂.at o₁ o₀ (omega (arith, q.place, p₀.few, p₁.few, p₂.few)) p.later;
   same = q.same ∙ p.same;
   place = omega (arith, p.place, q.place, length-append bs cs);
 }
 
-pub wrote_none : (out : List ℕ) (pen : Pen) → Sound pen → Wrote out pen [] out pen
-wrote_none out pen s = record {
+pub wrote_none : (out : List ℕ) (pen : Pen) → Wrote out pen [] out pen
+wrote_none out pen = record {
   up_to = sym (append-nil (bits_written out pen));
-  sound = s;
   later = refl;
   same = refl;
   place = omega arith;
@@ -113,11 +98,6 @@ module _ (o₀ o₁ : List ℕ) (p₀ p₁ : Pen) (n k v : ℕ) (so_far : Wrote 
 
   pub next_room : k < n → RoomForBits o₀ p₀ n → RoomForBits o₁ p₁ 1
   next_room h r = room_left so_far 1 (omega (arith, length-code k (v / 2 ^ (n - k))))
-
-  pub all_bits_lem : k ≡ n → Wrote o₀ p₀ (code n v) o₁ p₁
-  all_bits_lem e =
-      let z : n - k ≡ 0 = omega arith in
-      rw (z, e, div-one v) at so_far
 
 -- ue(v): zeros, and v + 1, whose first bit is the one
 value_from_lem : (v : ℕ) (l : List Bool) → value_from v l ≡ v * 2 ^ length l + value l
@@ -150,16 +130,33 @@ ue_whole v =
     let z = zeros_law v in
     rw (add-one (zeros_of v), code_top (zeros_of v) (v + 1) z.0 z.1)
 
--- halving, and where it ends
-pub halved : (v k : ℕ) → (v + 1) / 2 ^ k / 2 ≡ (v + 1) / 2 ^ (k + 1)
-halved v k = shr-shr (v + 1) k 1
+pub zeros_of_word : (v : ℕ) → v + 1 < 2 ^ 32 → zeros_of v ≤ 31
+zeros_of_word v h = zeros_few 31 v h
 
-pub halved_out : (v k x : ℕ) → x ≡ (v + 1) / 2 ^ k → 0 < x → x < 2 → k ≡ zeros_of v
-halved_out v k x e p h =
-    let one : (v + 1) / 2 ^ k ≡ 1 = omega arith in
-    let s : 1 * 2 ^ k + (v + 1) % 2 ^ k ≡ v + 1 = rw one at (split (v + 1) k) in
-    let m : (v + 1) % 2 ^ k < 2 ^ k = mod-lt (v + 1) (pow_pos k) in
-    sym (zeros_is k v (omega arith) (omega arith))
+-- what the bits of a ue(v) code are counted by
+pub ruleset ue_lengths = (zeros_of_word, length-ue, length-replicate)
+
+-- i(n): of a number in 32 bits, with its sign, the last n
+code_higher : (n v k : ℕ) → code n (v + k * 2 ^ n) ≡ code n v
+unfolding code
+code_higher zero v k = refl
+code_higher (suc n) v k =
+    let m = k * 2 ^ n in
+    let e : k * 2 ^ suc n ≡ 2 * m = rw (pow-succ' 2 n) (omega arith) in
+    let d : (v + 2 * m) / 2 ≡ v / 2 + m = omega arith in
+    let o : (v + 2 * m) % 2 ≡ v % 2 = omega arith in
+    rw (e, d, o, code_higher n (v / 2) k)
+
+pub code_signed : (n : ℕ) (z : ℤ) → n ≤ 32 → holds (signed n) z ≡ true → code n (of_z w32 z) ≡ code n (complement n z)
+code_signed n (pos v) h held = refl
+code_signed n (negsuc v) h held =
+    let l = ltb-true v (2 ^ n - 2 ^ (n - 1)) held in
+    let i : 32 - n + n ≡ 32 = omega arith in
+    let p : 2 ^ (32 - n) * 2 ^ n ≡ 2 ^ 32 = sym (pow-add 2 (32 - n) n) ∙ ap (λ (m : ℕ). 2 ^ m) i in
+    let k : 2 ^ (32 - n) - 1 + 1 ≡ 2 ^ (32 - n) = omega (arith, pow_pos (32 - n)) in
+    let q : (2 ^ (32 - n) - 1) * 2 ^ n + 1 * 2 ^ n ≡ 2 ^ (32 - n) * 2 ^ n = sym (add-mul (2 ^ (32 - n) - 1) 1 (2 ^ n)) ∙ ap (λ (m : ℕ). m * 2 ^ n) k in
+    let e : 2 ^ 32 - suc v ≡ 2 ^ n - suc v + (2 ^ (32 - n) - 1) * 2 ^ n = omega arith in
+    ap (code n) e ∙ code_higher n (2 ^ n - suc v) (2 ^ (32 - n) - 1)
 
 -- the statement of what was written admits one buffer and one pen
 same_parts : {A : Type 0} (a b c d : List A) → length a ≡ length c → a ++ b ≡ c ++ d → (a ≡ c) × (b ≡ d)
@@ -171,8 +168,8 @@ same_parts a b c d l e = (
 pub wrote_one : {out : List ℕ} {pen : Pen} {bits : List Bool} {o₁ o₂ : List ℕ} {p₁ p₂ : Pen} → Bytes o₁ → Bytes o₂
     → Wrote out pen bits o₁ p₁ → Wrote out pen bits o₂ p₂ → (p₁ ≡ p₂) × (o₁ ≡ o₂)
 wrote_one {out} {pen} {bits} {o₁} {o₂} {p₁} {p₂} b₁ b₂ w₁ w₂ =
-    let a : p₁.at ≡ p₂.at = omega (arith, w₁.place, w₂.place, w₁.sound.few, w₂.sound.few) in
-    let k : p₁.waiting ≡ p₂.waiting = omega (arith, w₁.place, w₂.place, w₁.sound.few, w₂.sound.few) in
+    let a : p₁.at ≡ p₂.at = omega (arith, w₁.place, w₂.place, p₁.few, p₂.few) in
+    let k : p₁.waiting ≡ p₂.waiting = omega (arith, w₁.place, w₂.place, p₁.few, p₂.few) in
     let t₁ = take p₁.at o₁ in
     let t₂ = take p₂.at o₂ in
     let l : length (bits_of t₁) ≡ length (bits_of t₂) =
@@ -181,13 +178,16 @@ wrote_one {out} {pen} {bits} {o₁} {o₂} {p₁} {p₂} b₁ b₂ w₁ w₂ =
     let t : t₁ ≡ t₂ = bits_determine t₁ t₂ (bytes_take p₁.at o₁ b₁) (bytes_take p₂.at o₂ b₂) s.0 in
     let d : drop p₁.at o₁ ≡ drop p₂.at o₂ = w₁.later ∙ ap (λ (n : ℕ). drop n out) a ∙ sym w₂.later in
     let v : p₁.bits ≡ p₂.bits =
-    sym (value-code p₁.waiting p₁.bits w₁.sound.small) ∙ ap value s.1 ∙ value-code p₂.waiting p₂.bits w₂.sound.small in (
-      whole p₁ p₂ a k v,
+    sym (value-code p₁.waiting p₁.bits p₁.small) ∙ ap value s.1 ∙ value-code p₂.waiting p₂.bits p₂.small in (
+      whole p₁.at p₁.waiting p₁.bits p₂.at p₂.waiting p₂.bits a k v p₁.few p₁.small p₂.few p₂.small,
       sym (take-append-drop p₁.at o₁) ∙ ap (λ (x : List ℕ). x ++ drop p₁.at o₁) t ∙ ap (λ (x : List ℕ). t₂ ++ x) d ∙ take-append-drop p₂.at o₂,
     )
   where
-    pen_of : ℕ → ℕ → ℕ → Pen
-    pen_of a k v = record { at = a; waiting = k; bits = v }
+    pen_of : (a k v : ℕ) → k < 8 → v < 2 ^ k → Pen
+    pen_of a k v f s = record { at = a; waiting = k; bits = v; few = f; small = s }
 
-    whole : (p q : Pen) → p.at ≡ q.at → p.waiting ≡ q.waiting → p.bits ≡ q.bits → p ≡ q
-    whole p q a k v = let e : pen_of p.at p.waiting p.bits ≡ pen_of q.at q.waiting q.bits = cc in e
+    alike : (a k v : ℕ) (f f' : k < 8) (s s' : v < 2 ^ k) → pen_of a k v f s ≡ pen_of a k v f' s'
+    alike a k v f f' s s' = ap (λ (x : k < 8). pen_of a k v x s) (le_prop f f') ∙ ap (pen_of a k v f') (le_prop s s')
+
+    whole : (a k v a' k' v' : ℕ) → a ≡ a' → k ≡ k' → v ≡ v' → (f : k < 8) (s : v < 2 ^ k) (f' : k' < 8) (s' : v' < 2 ^ k') → pen_of a k v f s ≡ pen_of a' k' v' f' s'
+    whole a k v a' k' v' e f g = rw (e, f, g) (λ x y x' y'. alike a' k' v' x x' y y')

@@ -1,6 +1,8 @@
 -- What the functions for C answer and leave: what the library's functions answer, of the record or the table that numbers name.
-use Rattle.std.specs.Prelude.{ℕ, ◌/◌, ◌%◌, ◌^◌, ◌≡◌, List, [], ◌∷◌, Bool, cond, ◌&&◌, eqb, ℤ, length}
+use Rattle.std.specs.Prelude.{ℕ, ◌/◌, ◌%◌, ◌^◌, ◌≡◌, List, [], ◌∷◌, Bool, cond, ◌&&◌, Result, Ok, Err, eqb, ℤ, length}
+use Rattle.refusals.specs.declared.Refusal.{Refusal}
 use Rattle.refusals.specs.Refusals.{unfit_output}
+use Rattle.refusals.specs.Numbered.{number_of as refusal_number}
 use Rattle.tree.specs.Bits.{bit}
 use Rattle.element.specs.Element.{number_of}
 use Rattle.cause.specs.declared.Kind.{Kind}
@@ -16,6 +18,11 @@ use Rattle.track.specs.declared.InForce.{InForce}
 use Rattle.track.specs.declared.Joined.{Joined}
 use Rattle.flat.specs.Flat.{flat_length, record_in}
 use Rattle.tables.specs.Table.{point_length, flat_table, table_length, table_in}
+
+-- an outcome's number, as C has it: 0 where it is done, and else the refusal's
+abbrev pub number_for : {A : Type 0} → Result A Refusal → ℕ
+number_for (Ok a) = 0
+number_for (Err r) = refusal_number r
 
 -- an argument of a wrong length is refused with 13 before everything else
 abbrev pub if_sized : Bool → ℕ → ℕ

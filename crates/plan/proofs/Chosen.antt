@@ -1,60 +1,91 @@
--- What `choose` answers, by its tests.
-use mathlib.Core.Path.{◌≡◌, refl, sym, ◌∙◌, ap, subst}
-use mathlib.Core.Bool.{Bool, true, false, not}
-use lib.Dec.{T}
-use lib.IntN.{ℤ}
-use lib.Signed.{lt_z}
-use mir.Syntax.{w32}
-use mir.Val.{SFits, to_z, of_z}
-use mir.ValLaws.{to_z-of_z}
+-- What `choose` answers, by what is there and by the order of the numbers.
+use Rattle.std.proofs.Common.{◌≡◌, refl, sym, ◌∙◌, ap, subst, arith, ltb, cond, true, Bool}
+use Rattle.std.proofs.lemmas.Int.{ints}
+use Rattle.std.proofs.Math.Bridge.{le_prop}
+use Rattle.std.proofs.Common.{Ordering, Less, Equal, Greater, int_cmp}
+use Rattle.std.proofs.lemmas.Cmp.{int_ranked}
+use Rattle.std.specs.Prelude.{ℕ, ◌+◌, ◌-◌, ◌<◌, ◌≤◌, ◌<ℤ◌, ℤ}
+use Rattle.std.specs.Ordering.{MatchOrdering}
+use Rattle.std.specs.Int.Signed.{lt_z_yes}
+use borrow.Author.Tests.{lt-ltb, le-ltb}
 use Rattle.keyed.specs.Keyed.{Compared, less, same, greater}
-use Rattle.plan.specs.Pictures.{Before, order, before_irreflexive, before_transitive}
-use Rattle.plan.specs.Planning.{Tag, NextTag, next, picture_of, next_by, next_of}
+use Rattle.plan.specs.declared.Source.{Source}
+use Rattle.plan.specs.declared.Source.TheVariants.{First, Second, Neither}
+use Rattle.plan.specs.declared.Turn.{Turn}
+use Rattle.plan.specs.declared.entry.Entry.{Entry}
+use Rattle.plan.specs.Entries.{clamped, entry_at}
+use Rattle.plan.specs.Limit.{most_points}
+use Rattle.plan.specs.Pictures.{Before, order}
+use Rattle.plan.specs.Planning.{named, neither, Tag, tag, NextTag, next, picture_of, next_by, next_of, turn_of}
 
--- a test of two signed locals is a test of their numbers
-pub flag : (a b : ℤ) (v : Bool) → SFits w32 a → SFits w32 b → lt_z (to_z w32 (of_z w32 a)) (to_z w32 (of_z w32 b)) ≡ v → lt_z a b ≡ v
-flag a b v fa fb e = ap (λ (z : ℤ). lt_z z b) (sym (to_z-of_z w32 a fa)) ∙ ap (lt_z (to_z w32 (of_z w32 a))) (sym (to_z-of_z w32 b fb)) ∙ e
+-- entries with one index are one entry
+entry_same : (d e : Entry) → d.at ≡ e.at → d ≡ e
+entry_same d e p =
+    subst (λ (n : ℕ). (h : n < most_points) → d ≡ record { at = n; in_table = h }) p
+    (λ h. ap (λ (q : d.at < most_points). record { at = d.at; in_table = q }) (le_prop d.in_table h)) e.in_table
 
-is : {b : Bool} → b ≡ true → T b
-is e = subst T (sym e) tt
+-- an index that is there stays as it is
+pub clamped_in : (i : ℕ) → i < most_points → clamped i ≡ i
+clamped_in i h = ap (λ (b : Bool). cond b i (most_points - 1)) (lt-ltb i most_points h)
 
-isn't : {b : Bool} → b ≡ false → T b → ⊥
-isn't e t = subst T e t
+-- an entry is the one at its index
+entry_again : (e : Entry) → entry_at e.at ≡ e
+entry_again e = entry_same (entry_at e.at) e (clamped_in e.at e.in_table)
 
-at_less : (x y : Tag) (t : Compared Before (picture_of x) (picture_of y)) → lt_z (picture_of x) (picture_of y) ≡ true → next_by x y t ≡ next x 1 0
-at_less x y (less _) e = refl
-at_less x y (same q) e = absurd (before_irreflexive (picture_of y) (subst (λ (z : ℤ). Before z (picture_of y)) q (is e)))
-at_less x y (greater h) e = absurd (before_irreflexive (picture_of x) (before_transitive (picture_of x) (picture_of y) (picture_of x) (is e) h))
+-- ---- what a source's number names
+module _ (source : ℕ) where
+  abbrev first : Source
+  first = First (entry_at source)
 
-at_greater : (x y : Tag) (t : Compared Before (picture_of x) (picture_of y)) → lt_z (picture_of x) (picture_of y) ≡ false → lt_z (picture_of y) (picture_of x) ≡ true → next_by x y t ≡ next y 0 1
-at_greater x y (less h) e f = absurd (isn't e h)
-at_greater x y (same q) e f = absurd (before_irreflexive (picture_of y) (subst (λ (z : ℤ). Before (picture_of y) z) q (is f)))
-at_greater x y (greater h) e f = refl
+  abbrev second : Source
+  second = Second (entry_at (source - most_points))
 
-at_same : (x y : Tag) (t : Compared Before (picture_of x) (picture_of y)) → lt_z (picture_of x) (picture_of y) ≡ false → lt_z (picture_of y) (picture_of x) ≡ false → next_by x y t ≡ next y 1 1
-at_same x y (less h) e f = absurd (isn't e h)
-at_same x y (same q) e f = refl
-at_same x y (greater h) e f = absurd (isn't f h)
+  pub named_first : source < most_points → named source ≡ first
+  named_first h = ap (λ (b : Bool). cond b first (cond (ltb source neither) second Neither)) (lt-ltb source most_points h)
 
-pub only_x : (p q : Bool) (x y : Tag) → not q ≡ true → next x 1 0 ≡ next_of p x q y
-only_x p true x y e = absurd (isn't (sym e) tt)
-only_x p false x y e = refl
+  pub named_second : most_points ≤ source → source < neither → named source ≡ second
+  named_second g h = ap (λ (b : Bool). cond b first (cond (ltb source neither) second Neither)) (le-ltb source most_points g) ∙ ap (λ (b : Bool). cond b second Neither) (lt-ltb source neither h)
 
-pub only_y : (p q : Bool) (x y : Tag) → not q ≡ false → not p ≡ true → next y 0 1 ≡ next_of p x q y
-only_y true q x y e f = absurd (isn't (sym f) tt)
-only_y false true x y e f = refl
-only_y false false x y e f = absurd (isn't e tt)
+pub first_named : (e : Entry) → named e.at ≡ First e
+first_named e = named_first e.at e.in_table ∙ ap First (entry_again e)
 
-pub both_there : (p q : Bool) (x y : Tag) (r : NextTag) → not q ≡ false → not p ≡ false → next_by x y (order (picture_of x) (picture_of y)) ≡ r → r ≡ next_of p x q y
-both_there true true x y r e f g = sym g
-both_there true false x y r e f g = absurd (isn't e tt)
-both_there false q x y r e f g = absurd (isn't f tt)
+pub second_named : (e : Entry) → named (most_points + e.at) ≡ Second e
+second_named e =
+    let h : e.at < most_points = e.in_table in
+    let i : most_points + e.at - most_points ≡ e.at = omega arith in
+    named_second (most_points + e.at) (omega arith) (omega arith) ∙ ap (λ (n : ℕ). Second (entry_at n)) i ∙ ap Second (entry_again e)
 
-pub first : (x y : Tag) → lt_z (picture_of x) (picture_of y) ≡ true → next_by x y (order (picture_of x) (picture_of y)) ≡ next x 1 0
-first x y e = at_less x y (order (picture_of x) (picture_of y)) e
+-- by the order that `cmp` finds
+abbrev next_as : Tag → Tag → Ordering → NextTag
+next_as x y Less = next x 1 0
+next_as x y Equal = next y 1 1
+next_as x y Greater = next y 0 1
 
-pub second : (x y : Tag) → lt_z (picture_of x) (picture_of y) ≡ false → lt_z (picture_of y) (picture_of x) ≡ true → next_by x y (order (picture_of x) (picture_of y)) ≡ next y 0 1
-second x y e f = at_greater x y (order (picture_of x) (picture_of y)) e f
+compared : (x y : Tag) (t : Compared Before (picture_of x) (picture_of y)) (r : Ordering)
+    → MatchOrdering r (picture_of x <ℤ picture_of y) (picture_of x ≡ picture_of y) (picture_of y <ℤ picture_of x) → next_by x y t ≡ next_as x y r
+compared x y (less h) Less g = refl
+compared x y (less h) Equal g = let f : picture_of x <ℤ picture_of y = lt_z_yes h in absurd (omega (arith, ints))
+compared x y (less h) Greater g = let f : picture_of x <ℤ picture_of y = lt_z_yes h in absurd (omega (arith, ints))
+compared x y (same e) Less g = absurd (omega (arith, ints))
+compared x y (same e) Equal g = refl
+compared x y (same e) Greater g = absurd (omega (arith, ints))
+compared x y (greater h) Less g = let f : picture_of y <ℤ picture_of x = lt_z_yes h in absurd (omega (arith, ints))
+compared x y (greater h) Equal g = let f : picture_of y <ℤ picture_of x = lt_z_yes h in absurd (omega (arith, ints))
+compared x y (greater h) Greater g = refl
 
-pub level : (x y : Tag) → lt_z (picture_of x) (picture_of y) ≡ false → lt_z (picture_of y) (picture_of x) ≡ false → next_by x y (order (picture_of x) (picture_of y)) ≡ next y 1 1
-level x y e f = at_same x y (order (picture_of x) (picture_of y)) e f
+-- what comes next where both numbers are there
+abbrev turn_as : Entry → Entry → Ordering → Turn
+turn_as e f Less = record { source = First e; left = 1; right = 0 }
+turn_as e f Equal = record { source = Second f; left = 1; right = 1 }
+turn_as e f Greater = record { source = Second f; left = 0; right = 1 }
+
+pub both_there : (e f : Entry) (x y : ℤ) (r : Ordering) → r ≡ int_cmp x y → turn_as e f r ≡ turn_of (next_of true (tag e.at x) true (tag (most_points + f.at) y))
+both_there e f x y r h =
+    let v = tag e.at x in
+    let w = tag (most_points + f.at) y in
+    named_as r ∙ ap turn_of (sym (compared v w (order x y) r (int_ranked x y r h)))
+  where
+    named_as : (o : Ordering) → turn_as e f o ≡ turn_of (next_as (tag e.at x) (tag (most_points + f.at) y) o)
+    named_as Less = rw (first_named e)
+    named_as Equal = rw (second_named f)
+    named_as Greater = rw (second_named f)

@@ -1,5 +1,4 @@
-pub mod Denied
-pub mod Merging
 pub mod Chosen
+pub mod Merging
 pub mod Reaching
 pub mod OneAnswer

@@ -2,23 +2,30 @@
 use mathlib.Core.Path.{◌≡◌, refl, sym, ◌∙◌, ap, subst}
 use mathlib.Core.Bool.{Bool, true, false, cond}
 use mathlib.Core.List.{List, [], ◌∷◌, ◌++◌, map, append_assoc, append-nil}
-use Prim.Native.Nat.{ℕ, zero, suc, ◌+◌, ◌-◌, ◌≤◌, ◌<◌}
+use Prim.Native.Nat.{ℕ, zero, suc, ◌+◌, ◌≤◌, ◌<◌}
 use native.Mathlib.Nat.{zero-add, le_of_suc-le-suc, not-suc-le-zero}
 use native.Mathlib.Numerals.{add-one}
 use native.Mathlib.Omega.{arith}
-use borrow.Author.Tests.{ltb-true, ltb-false, le-leb, lt-leb, lt-ltb}
+use borrow.Author.Tests.{ltb-true, ltb-false, le-leb, lt-leb}
 use lib.Dec.{ltb}
 use lib.ListN.{length, take, drop, get_or, set, length-set, length-append}
-use lib.Seq.{drop-cons, drop-drop, drop-set-lt, take-suc-set, length-take-le, take_all, get_or-take}
+use lib.Seq.{drop-cons, drop-drop, drop-set-lt, take-suc-set, length-take-le, take_all}
 use lib.IntN.{ℤ, pos}
-use Rattle.refusals.specs.Refusals.{too_many_points}
+use Rattle.std.specs.Prelude.{Option, Some, None, Result, Ok, Err, is_some, unwrap_or, option_map, option_copied}
+use Rattle.std.specs.Borrow.{Bor}
+use Rattle.std.proofs.lemmas.List.{map-set, take-append-drop}
+use Rattle.refusals.specs.declared.Refusal.{Refusal}
+use Rattle.refusals.specs.declared.Refusal.TheVariants.{TooManyPoints}
 use Rattle.keyed.specs.Keyed.{Compared, less, same, greater}
 use Rattle.keyed.proofs.Laws.{front_by, join_front, nothing_joined}
 use Rattle.plan.specs.Limit.{most_points}
 use Rattle.plan.specs.Pictures.{Before, order, pictures}
-use Rattle.plan.specs.declared.Turn.{Turn}
 use Rattle.plan.specs.declared.Layout.{Layout}
-use Rattle.plan.specs.Planning.{Tag, tag, source_of, picture_of, tags_from, first_tags, second_tags, join_tags, RisingTags, NextTag, next, next_by, next_of, turn_of, clamped, no_sources, refused_layout, layout_of}
+use Rattle.plan.specs.declared.Source.{Source}
+use Rattle.plan.specs.declared.entry.Entry.{Entry}
+use Rattle.plan.specs.Entries.{clamped, entry_at}
+use Rattle.plan.proofs.Chosen.{clamped_in}
+use Rattle.plan.specs.Planning.{named, Tag, tag, source_of, picture_of, tags_from, join_tags, RisingTags, NextTag, next, next_by, next_of, no_sources, layout_of}
 
 abbrev none : Tag
 none = tag 0 (pos 0)
@@ -100,33 +107,39 @@ module _ (A B : List Tag) (ra : RisingTags A) (rb : RisingTags B) (i j : ℕ) wh
     fronts la lb h = by_tests (ltb i (length A)) (ltb j (length B)) refl refl la lb h
 
 -- ---- the same, of the sources alone
-pub record Comes (A B : List Tag) (i j : ℕ) (N : Turn) : Type 0 where
-  pub front : map source_of (join_tags (drop i A) (drop j B)) ≡ N.source ∷ map source_of (join_tags (drop (i + N.left) A) (drop (j + N.right) B))
+pub record Comes (A B : List Tag) (i j : ℕ) (N : NextTag) : Type 0 where
+  pub front : map source_of (join_tags (drop i A) (drop j B)) ≡ N.tag.source ∷ map source_of (join_tags (drop (i + N.left) A) (drop (j + N.right) B))
   pub left : i + N.left ≤ length A
   pub right : j + N.right ≤ length B
   pub on : i + j < i + N.left + (j + N.right)
 
-comes : (A B : List Tag) (i j : ℕ) (N : NextTag) → Fronted A B i j N → Comes A B i j (turn_of N)
+comes : (A B : List Tag) (i j : ℕ) (N : NextTag) → Fronted A B i j N → Comes A B i j N
 comes A B i j N f = record { front = ap (map source_of) f.front; left = f.left; right = f.right; on = f.on }
 
--- ---- the loop's invariant
-pub record Merging (J : List ℕ) (A B : List Tag) (out : List ℕ) (i j k : ℕ) : Type 0 where
+-- ---- the loop's invariant: what stands in `out` are the sources that numbers name
+pub record Merging (J : List ℕ) (A B : List Tag) (out : List Source) (i j k : ℕ) : Type 0 where
+  pub numbers : List ℕ
+  pub named_by : out ≡ map named numbers
   pub left : i ≤ length A
   pub right : j ≤ length B
   pub count : k ≤ most_points
-  pub size : length out ≡ most_points
-  pub so_far : J ≡ take k out ++ map source_of (join_tags (drop i A) (drop j B))
-  pub rest : drop k out ≡ drop k no_sources
+  pub size : length numbers ≡ most_points
+  pub so_far : J ≡ take k numbers ++ map source_of (join_tags (drop i A) (drop j B))
+  pub rest : drop k numbers ≡ drop k no_sources
 
-pub begins : (A B : List Tag) → Merging (map source_of (join_tags A B)) A B no_sources 0 0 0
-begins A B = record { left = omega arith; right = omega arith; count = omega arith; size = refl; so_far = refl; rest = refl }
+pub begins : (A B : List Tag) → Merging (map source_of (join_tags A B)) A B (map named no_sources) 0 0 0
+begins A B = record { numbers = no_sources; named_by = refl; left = omega arith; right = omega arith; count = omega arith; size = refl; so_far = refl; rest = refl }
 
-pub turns : (J : List ℕ) (A B : List Tag) (l : List ℕ) (i j k : ℕ) (N : Turn) → Merging J A B l i j k → Comes A B i j N → k < most_points → Merging J A B (set l k N.source) (i + N.left) (j + N.right) (k + 1)
-turns J A B l i j k N m f h =
-    let p = N.source in
+pub turns : (J : List ℕ) (A B : List Tag) (out : List Source) (i j k : ℕ) (N : NextTag) → Merging J A B out i j k → Comes A B i j N → k < most_points
+    → Merging J A B (set out k (named N.tag.source)) (i + N.left) (j + N.right) (k + 1)
+turns J A B out i j k N m f h =
+    let p = N.tag.source in
+    let l = m.numbers in
     let r = map source_of (join_tags (drop (i + N.left) A) (drop (j + N.right) B)) in
     let inside : k < length l = subst (λ (n : ℕ). k < n) (sym m.size) h in
     record {
+      numbers = set l k p;
+      named_by = ap (λ (u : List Source). set u k (named p)) m.named_by ∙ sym (map-set named l k p);
       left = f.left;
       right = f.right;
       count = omega arith;
@@ -136,20 +149,25 @@ turns J A B l i j k N m f h =
       rest = drop-set-lt (k + 1) l k p (omega arith) ∙ sym (drop-drop 1 k l) ∙ ap (drop 1) m.rest ∙ drop-drop 1 k no_sources;
     }
 
-abbrev fitting : List ℕ → Layout
-fitting J = record { result = 0; count = length J; sources = J ++ drop (length J) no_sources }
+abbrev fitting : List ℕ → Result Layout Refusal
+fitting J = Ok (record { count = length J; sources = map named (J ++ drop (length J) no_sources) })
 
 -- the join is longer than 64
-pub too_long : (J : List ℕ) (A B : List Tag) (l : List ℕ) (i j k : ℕ) (N : Turn) → Merging J A B l i j k → Comes A B i j N → k ≡ most_points → layout_of J ≡ refused_layout too_many_points
-too_long J A B l i j k N m f e =
+pub too_long : (J : List ℕ) (A B : List Tag) (out : List Source) (i j k : ℕ) (N : NextTag) → Merging J A B out i j k → Comes A B i j N → k ≡ most_points → Err TooManyPoints ≡ layout_of J
+too_long J A B out i j k N m f e =
+    let l = m.numbers in
     let r = map source_of (join_tags (drop (i + N.left) A) (drop (j + N.right) B)) in
     let whole : take k l ≡ l = take_all k l (let s = m.size in omega (arith, s, e)) in
     let long : length J ≡ length l + suc (length r) =
-    (ap length (m.so_far ∙ ap (λ (u : List ℕ). u ++ map source_of (join_tags (drop i A) (drop j B))) whole ∙ ap (λ (u : List ℕ). l ++ u) f.front) ∙ length-append l (N.source ∷ r)) in
-    ap (λ (b : Bool). cond b (fitting J) (refused_layout too_many_points)) (lt-leb (length J) most_points (let s = m.size in omega (arith, s, long)))
+    (ap length (m.so_far ∙ ap (λ (u : List ℕ). u ++ map source_of (join_tags (drop i A) (drop j B))) whole ∙ ap (λ (u : List ℕ). l ++ u) f.front) ∙ length-append l (N.tag.source ∷ r)) in
+    sym (ap (λ (b : Bool). cond b (fitting J) (Err TooManyPoints)) (lt-leb (length J) most_points (let s = m.size in omega (arith, s, long))))
 
-pub ends : (J : List ℕ) (A B : List Tag) (l : List ℕ) (i j k : ℕ) → Merging J A B l i j k → length A + length B ≤ i + j → record { result = 0; count = k; sources = l } ≡ layout_of J
-ends J A B l i j k m h =
+same_layout : {k n : ℕ} {u v : List Source} → k ≡ n → u ≡ v → ◌≡◌ {A = Result Layout Refusal} (Ok (record { count = k; sources = u })) (Ok (record { count = n; sources = v }))
+same_layout e f = rw (e, f)
+
+pub ends : (J : List ℕ) (A B : List Tag) (out : List Source) (i j k : ℕ) → Merging J A B out i j k → length A + length B ≤ i + j → Ok (record { count = k; sources = out }) ≡ layout_of J
+ends J A B out i j k m h =
+    let l = m.numbers in
     let la = m.left in
     let lb = m.right in
     let ea : drop i A ≡ [] = gone A i (omega arith) in
@@ -157,17 +175,10 @@ ends J A B l i j k m h =
     let all : J ≡ take k l = (m.so_far ∙ ap (λ (u : List Tag). take k l ++ map source_of (join_tags u (drop j B))) ea ∙ ap (λ (u : List Tag). take k l ++ map source_of (join_tags [] u)) eb ∙ append-nil (take k l)) in
     let len : length J ≡ k = (ap length all ∙ length-take-le k l (let c = m.count in let s = m.size in omega (arith, c, s))) in
     let pads : J ++ drop (length J) no_sources ≡ l =
-    (ap (λ (n : ℕ). J ++ drop n no_sources) len ∙ ap (λ (u : List ℕ). J ++ u) (sym m.rest) ∙ ap (λ (u : List ℕ). u ++ drop k l) all ∙ take-drop k l) in
-    ap (λ (n : ℕ). record { result = 0; count = n; sources = l }) (sym len)
-    ∙ ap (λ (u : List ℕ). record { result = 0; count = length J; sources = u }) (sym pads)
-    ∙ ap (λ (b : Bool). cond b (fitting J) (refused_layout too_many_points)) (sym (le-leb (length J) most_points (let c = m.count in omega (arith, c, len))))
-  where
-    take-drop : (n : ℕ) (u : List ℕ) → take n u ++ drop n u ≡ u
-    take-drop zero u = refl
-    take-drop (suc n) [] = refl
-    take-drop (suc n) (v ∷ u) = ap (λ (w : List ℕ). v ∷ w) (take-drop n u)
+    (ap (λ (n : ℕ). J ++ drop n no_sources) len ∙ ap (λ (u : List ℕ). J ++ u) (sym m.rest) ∙ ap (λ (u : List ℕ). u ++ drop k l) all ∙ take-append-drop k l) in
+    same_layout (sym len) (m.named_by ∙ ap (map named) (sym pads)) ∙ ap (λ (b : Bool). cond b (fitting J) (Err TooManyPoints)) (sym (le-leb (length J) most_points (let c = m.count in omega (arith, c, len))))
 
--- ---- as `merge` has it: by the counts, and by the places that `clamp` gives
+-- ---- as `merge` has it: by what `get` gives, and by the places that are clamped
 pub tags_length : (c : ℕ) (l : List ℤ) → length (tags_from c l) ≡ length l
 tags_length c [] = refl
 tags_length c (z ∷ zs) = ap suc (tags_length (suc c) zs)
@@ -177,25 +188,37 @@ tags_at c [] i h = absurd (not-suc-le-zero h)
 tags_at c (z ∷ zs) zero h = ap (λ (n : ℕ). tag n z) (omega arith)
 tags_at c (z ∷ zs) (suc i) h = tags_at (suc c) zs i (le_of_suc-le-suc h) ∙ ap (λ (n : ℕ). tag n (get_or zs i (pos 0))) (omega arith)
 
-clamp_in : (i e : ℕ) → e ≡ clamped i → i < most_points → e ≡ i
-clamp_in i e q h = q ∙ ap (λ (b : Bool). cond b i (most_points - 1)) (lt-ltb i most_points h)
+got_at : (c : ℕ) (l : List ℤ) (i : ℕ) → length l ≤ most_points → i < length l → tag (c + clamped i) (get_or l i (pos 0)) ≡ tag_at (tags_from c l) i
+got_at c l i h g = ap (λ (m : ℕ). tag (c + m) (get_or l i (pos 0))) (clamped_in i (omega arith)) ∙ sym (tags_at c l i g)
 
-tag_in : (c : ℕ) (l : List ℤ) (n i e : ℕ) → n ≤ most_points → n ≤ length l → e ≡ clamped i → i < n → tag (c + e) (get_or l e (pos 0)) ≡ tag_at (tags_from c (take n l)) i
-tag_in c l n i e h s q g =
-    let ln : length (take n l) ≡ n = length-take-le n l s in
-    ap (λ (m : ℕ). tag (c + m) (get_or l m (pos 0))) (clamp_in i e q (omega arith)) ∙ ap (tag (c + i)) (sym (get_or-take n l i (pos 0) g)) ∙ sym (tags_at c (take n l) i (omega (arith, ln)))
+-- what comes next, as `choose` is asked for it
+abbrev pub next_at : List ℤ → List ℤ → ℕ → ℕ → NextTag
+next_at a b i j = next_of (ltb i (length a)) (tag (clamped i) (get_or a i (pos 0))) (ltb j (length b)) (tag (most_points + clamped j) (get_or b j (pos 0)))
 
-pub comes_at : (a b : List ℤ) (n m i j e f : ℕ) → n ≤ most_points → m ≤ most_points → length a ≡ most_points → length b ≡ most_points → RisingTags (first_tags n a) → RisingTags (second_tags m b)
-    → e ≡ clamped i → f ≡ clamped j → i ≤ n → j ≤ m → i + j < n + m
-    → Comes (first_tags n a) (second_tags m b) i j (turn_of (next_of (ltb i n) (tag e (get_or a e (pos 0))) (ltb j m) (tag (most_points + f) (get_or b f (pos 0)))))
-comes_at a b n m i j e f hn hm la lb ra rb qe qf hi hj h =
-    let x = tag e (get_or a e (pos 0)) in
-    let y = tag (most_points + f) (get_or b f (pos 0)) in
-    let ea : length (first_tags n a) ≡ n = tags_length 0 (take n a) ∙ length-take-le n a (omega arith) in
-    let eb : length (second_tags m b) ≡ m = tags_length most_points (take m b) ∙ length-take-le m b (omega arith) in
-    comes (first_tags n a) (second_tags m b) i j (next_of (ltb i n) x (ltb j m) y)
-    (subst (λ (u : ℕ). Fronted (first_tags n a) (second_tags m b) i j (next_of (ltb i u) x (ltb j m) y)) ea
-    (subst (λ (u : ℕ). Fronted (first_tags n a) (second_tags m b) i j (next_of (ltb i (length (first_tags n a))) x (ltb j u) y)) eb
-    (fronts (first_tags n a) (second_tags m b) ra rb i j x y
-    (λ g. ap (λ (k : ℕ). tag k (get_or a e (pos 0))) (sym (zero-add e)) ∙ tag_in 0 a n i e hn (omega arith) qe (omega (arith, ea))) (λ g. tag_in most_points b m j f hm (omega arith) qf (omega (arith, eb)))
+pub comes_at : (a b : List ℤ) (i j : ℕ) → length a ≤ most_points → length b ≤ most_points → RisingTags (tags_from 0 a) → RisingTags (tags_from most_points b)
+    → i ≤ length a → j ≤ length b → i + j < length a + length b → Comes (tags_from 0 a) (tags_from most_points b) i j (next_at a b i j)
+comes_at a b i j la lb ra rb hi hj h =
+    let x = tag (clamped i) (get_or a i (pos 0)) in
+    let y = tag (most_points + clamped j) (get_or b j (pos 0)) in
+    let A = tags_from 0 a in
+    let B = tags_from most_points b in
+    let ea : length A ≡ length a = tags_length 0 a in
+    let eb : length B ≡ length b = tags_length most_points b in
+    comes A B i j (next_at a b i j)
+    (subst (λ (u : ℕ). Fronted A B i j (next_of (ltb i u) x (ltb j (length b)) y)) ea
+    (subst (λ (u : ℕ). Fronted A B i j (next_of (ltb i (length A)) x (ltb j u) y)) eb
+    (fronts A B ra rb i j x y
+    (λ g. ap (λ (k : ℕ). tag k (get_or a i (pos 0))) (sym (zero-add (clamped i))) ∙ got_at 0 a i la (omega (arith, ea))) (λ g. got_at most_points b j lb (omega (arith, eb)))
     (omega (arith, ea)) (omega (arith, eb)) (omega (arith, ea, eb)))))
+
+-- what `get` and `copied` give, as `choose` is told it
+pub told : (a b : List ℤ) (i j : ℕ) (p q : Option (Bor ℤ)) (x y : Option ℤ) (e f : Entry) → x ≡ option_copied p → y ≡ option_copied q → e ≡ entry_at i → f ≡ entry_at j
+    → is_some p ≡ ltb i (length a) → is_some q ≡ ltb j (length b)
+    → unwrap_or (option_map (λ r. r.now) p) (pos 0) ≡ get_or a i (pos 0) → unwrap_or (option_map (λ r. r.now) q) (pos 0) ≡ get_or b j (pos 0)
+    → next_of (is_some x) (tag e.at (unwrap_or x (pos 0))) (is_some y) (tag (most_points + f.at) (unwrap_or y (pos 0))) ≡ next_at a b i j
+told a b i j p q x y e f ex ey ee ef tp tq np nq =
+    rw (ex, ey, ee, ef, is_copied p, is_copied q, tp, tq, np, nq)
+  where
+    is_copied : (r : Option (Bor ℤ)) → is_some (option_copied r) ≡ is_some r
+    is_copied None = refl
+    is_copied (Some r) = refl

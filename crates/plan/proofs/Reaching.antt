@@ -1,38 +1,30 @@
--- One turn of `reach`.
-use mathlib.Core.Path.{◌≡◌, sym, ◌∙◌, ap}
-use mathlib.Core.Bool.{Bool, true, false, cond}
-use mathlib.Core.List.{List, []}
-use Prim.Native.Nat.{ℕ, suc, ◌+◌, ◌≤◌, ◌<◌}
-use native.Mathlib.Nat.{add-zero}
-use native.Mathlib.Numerals.{add-one}
-use native.Mathlib.Omega.{arith}
-use lib.IntN.{ℤ, pos}
-use lib.Signed.{lt_z}
-use lib.ListN.{length, take, drop, get_or, length-take}
-use lib.Seq.{drop-cons, get_or-take, drop-length}
+-- How far `reach` comes: the first number above the picture, or all of them.
+use Rattle.std.proofs.Common.{◌≡◌, refl, sym, ◌∙◌, ap, arith, ltb, cond, true, false, Bool, length, Some, None}
+use Rattle.std.proofs.lemmas.List.Recursion.{is_position_or_len}
+use Rattle.std.specs.Prelude.{ℕ, suc, ◌+◌, ◌≤◌, List, [], ◌∷◌, ℤ, Option, unwrap_or}
+use Rattle.std.specs.Int.Signed.{lt_z}
+use Rattle.std.specs.List.{position_or_len}
+use borrow.Author.Tests.{ltb-false}
 use Rattle.plan.specs.Seeking.{reach_of}
 
-module _ (k : ℤ) (l : List ℤ) (n : ℕ) (fits : n ≤ length l) (i : ℕ) (h : i < n) where
-  abbrev s : List ℤ
-  s = take n l
+reach_by : (r n : ℕ) (b : Bool) → r ≤ n → cond b 0 (suc r) ≤ suc n
+reach_by r n true h = omega arith
+reach_by r n false h = omega arith
 
-  inside : i < length s
-  inside = simp length-take (omega arith)
+pub reach_le : (k : ℤ) (l : List ℤ) → reach_of k l ≤ length l
+reach_le k [] = omega arith
+reach_le k (z ∷ zs) = reach_by (reach_of k zs) (length zs) (lt_z k z) (reach_le k zs)
 
-  next : reach_of k (drop i s) ≡ cond (lt_z k (get_or l i (pos 0))) 0 (suc (reach_of k (drop (suc i) s)))
-  next = ap (reach_of k) (drop-cons s i (pos 0) inside) ∙ ap (λ (p : ℤ). cond (lt_z k p) 0 (suc (reach_of k (drop (suc i) s)))) (get_or-take n l i (pos 0) h)
+one_more : (n : ℕ) → suc n ≡ 1 + n
+one_more n = omega arith
 
-  pub stops : lt_z k (get_or l i (pos 0)) ≡ true → reach_of k s ≡ i + reach_of k (drop i s) → i ≡ reach_of k s
-  stops t inv = sym (inv ∙ ap (λ (m : ℕ). i + m) (next ∙ ap (λ (b : Bool). cond b 0 (suc (reach_of k (drop (suc i) s)))) t) ∙ add-zero i)
+or_all : (r n : ℕ) (b : Bool) → r ≤ n → ltb r n ≡ b → unwrap_or (cond b (Some r) None) n ≡ r
+or_all r n true h e = refl
+or_all r n false h e = let g = ltb-false r n e in omega arith
 
-  pub goes_on : lt_z k (get_or l i (pos 0)) ≡ false → reach_of k s ≡ i + reach_of k (drop i s) → reach_of k s ≡ i + 1 + reach_of k (drop (i + 1) s)
-  goes_on t inv =
-      let e : reach_of k (drop i s) ≡ suc (reach_of k (drop (suc i) s)) = next ∙ ap (λ (b : Bool). cond b 0 (suc (reach_of k (drop (suc i) s)))) t in
-      let f : reach_of k (drop (i + 1) s) ≡ reach_of k (drop (suc i) s) = ap (λ (m : ℕ). reach_of k (drop m s)) (add-one i) in
-      omega (arith, inv, e, f)
-
-pub ends : (k : ℤ) (l : List ℤ) (n i : ℕ) → n ≤ length l → i ≡ n → reach_of k (take n l) ≡ i + reach_of k (drop i (take n l)) → i ≡ reach_of k (take n l)
-ends k l n i fits e inv =
-    let whole : length (take n l) ≡ i = simp length-take (omega arith) in
-    let gone : drop i (take n l) ≡ [] = ap (λ (m : ℕ). drop m (take n l)) (sym whole) ∙ drop-length (take n l) in
-    sym (inv ∙ ap (λ (r : List ℤ). i + reach_of k r) gone ∙ add-zero i)
+-- by what `position` finds
+pub found : (k : ℤ) (l : List ℤ) (o : Option ℕ) → o ≡ cond (ltb (position_or_len (lt_z k) l) (length l)) (Some (position_or_len (lt_z k) l)) None → unwrap_or o (length l) ≡ reach_of k l
+found k l o e =
+    let p : reach_of k l ≡ position_or_len (lt_z k) l = is_position_or_len (reach_of k) (lt_z k) refl (λ z zs. ap (cond (lt_z k z) 0) (one_more (reach_of k zs))) l in
+    let h = reach_le k l in
+    ap (λ (q : Option ℕ). unwrap_or q (length l)) e ∙ or_all (position_or_len (lt_z k) l) (length l) (ltb (position_or_len (lt_z k) l) (length l)) (omega arith) refl ∙ sym p

@@ -1,24 +1,23 @@
 -- Where each point of a join comes from, by the numbers alone.
-use Rattle.std.specs.Prelude.{ℕ, suc, ◌+◌, ◌-◌, Bool, cond, List, [], ◌∷◌, ◌++◌, map, ℤ, length, take, drop, get_or, replicate, eqb, ltb, leb}
-use Rattle.refusals.specs.Refusals.{unfit_output, too_many_points, not_a_track}
+use Rattle.std.specs.Prelude.{ℕ, suc, ◌+◌, ◌-◌, Bool, cond, Result, Ok, Err, List, [], ◌∷◌, ◌++◌, map, ℤ, length, take, drop, replicate, eqb, ltb, leb}
+use Rattle.refusals.specs.declared.Refusal.{Refusal}
+use Rattle.refusals.specs.declared.Refusal.TheVariants.{UnfitOutput, TooManyPoints, NotATrack}
 use Rattle.keyed.specs.Keyed.{Compared, less, same, greater, join, Rising}
 use Rattle.plan.specs.declared.Scanned.{Scanned}
 use Rattle.plan.specs.declared.Layout.{Layout}
+use Rattle.plan.specs.declared.Source.{Source}
+use Rattle.plan.specs.declared.Source.TheVariants.{First, Second, Neither}
 use Rattle.plan.specs.declared.Turn.{Turn}
 use Rattle.plan.specs.Limit.{most_points}
+use Rattle.plan.specs.Entries.{entry_at}
 use Rattle.plan.specs.Pictures.{Before, order, pictures}
 
 -- ---- sources: below `most_points` an entry of the first table, below `neither` one of the second, and else neither
 abbrev pub neither : ℕ
 neither = most_points + most_points
 
--- the first table's entry that a source names, or its first
-abbrev pub left_of : ℕ → ℕ
-left_of source = cond (ltb source most_points) source 0
-
--- the second table's entry that a source names, or its first
-abbrev pub right_of : ℕ → ℕ
-right_of source = cond (ltb source most_points) 0 (cond (ltb source neither) (source - most_points) 0)
+abbrev pub named : ℕ → Source
+named source = cond (ltb source most_points) (First (entry_at source)) (cond (ltb source neither) (Second (entry_at (source - most_points))) Neither)
 
 -- ---- a picture number, and where it stands
 pub record Tag : Type 0 where
@@ -70,37 +69,28 @@ abbrev pub next_of : Bool → Tag → Bool → Tag → NextTag
 next_of p x q y = cond q (cond p (next_by x y (order (picture_of x) (picture_of y))) (next y 0 1)) (next x 1 0)
 
 abbrev pub taken_off : ℕ → ℕ → ℕ → Turn
-taken_off source left right = record { source = source; left = left; right = right }
+taken_off source left right = record { source = named source; left = left; right = right }
 
 abbrev pub turn_of : NextTag → Turn
 turn_of n = taken_off n.tag.source n.left n.right
-
-abbrev pub clamped : ℕ → ℕ
-clamped i = cond (ltb i most_points) i (most_points - 1)
 
 -- ---- the layout of a result
 abbrev pub no_sources : List ℕ
 no_sources = replicate most_points neither
 
-abbrev pub refused_layout : ℕ → Layout
-refused_layout number = record { result = number; count = 0; sources = no_sources }
-
 -- 15 for more than 64 different numbers
-abbrev pub layout_of : List ℕ → Layout
-layout_of l = cond (leb (length l) most_points) (record { result = 0; count = length l; sources = l ++ drop (length l) no_sources }) (refused_layout too_many_points)
+abbrev pub layout_of : List ℕ → Result Layout Refusal
+layout_of l = cond (leb (length l) most_points) (Ok (record { count = length l; sources = map named (l ++ drop (length l) no_sources) })) (Err TooManyPoints)
 
 -- where the points of a join come from, in its order
+abbrev pub merged : List ℤ → List ℤ → List ℕ
+merged a b = map source_of (join_tags (tags_from 0 a) (tags_from most_points b))
+
+-- the same of two tracks in their tables
 abbrev pub merged_sources : List ℤ → ℕ → List ℤ → ℕ → List ℕ
-merged_sources a n b m = map source_of (join_tags (first_tags n a) (second_tags m b))
+merged_sources a n b m = merged (take n a) (take m b)
 
 -- 01, Refusal numbers: first track 16, second track 16, result table 13, then 15
-abbrev pub plan_of : Scanned → ℕ → Scanned → ℕ → ℕ → Layout
+abbrev pub plan_of : Scanned → ℕ → Scanned → ℕ → ℕ → Result Layout Refusal
 plan_of s n t m entries =
-    cond s.track (cond t.track (cond (eqb entries most_points) (layout_of (merged_sources s.pictures n t.pictures m)) (refused_layout unfit_output)) (refused_layout not_a_track)) (refused_layout not_a_track)
-
--- how many entries are filled: none where it is refused
-abbrev pub bound_of : Layout → ℕ
-bound_of l = cond (eqb l.result 0) most_points 0
-
-abbrev pub source_at : Layout → ℕ → ℕ
-source_at l k = get_or l.sources k 0
+    cond s.track (cond t.track (cond (eqb entries most_points) (layout_of (merged_sources s.pictures n t.pictures m)) (Err UnfitOutput)) (Err NotATrack)) (Err NotATrack)

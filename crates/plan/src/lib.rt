@@ -1,20 +1,20 @@
 // What the track functions decide on picture numbers and places alone. No point is seen here.
 #![tactic(auto)]
 
-ghost use Rattle.std.specs.Prelude.{◌≡◌, true, ◌+◌, ◌<◌, ◌≤◌, take};
+ghost use Rattle.std.specs.Prelude.{◌≡◌, true, ◌+◌, ◌<◌, ◌≤◌, length, take, pos, is_some, unwrap_or};
 ghost use Rattle.plan.specs.Limit.{most_points};
-ghost use Rattle.plan.specs.Scanning.{extent_of, begun, rises_at, noted};
-ghost use Rattle.plan.specs.Planning.{tag, RisingTags, first_tags, second_tags, taken_off, next_of, turn_of, clamped, refused_layout, layout_of, merged_sources, plan_of, bound_of, source_at, left_of, right_of};
+ghost use Rattle.plan.specs.Scanning.{sized, extent_of, begun, rises_at, noted};
+ghost use Rattle.plan.specs.Planning.{tag, RisingTags, first_tags, second_tags, tags_from, next_of, turn_of, taken_off, layout_of, merged, plan_of};
 ghost use Rattle.plan.specs.Seeking.{reach_of, seek_of};
 
-// A table has exactly this many entries, so a track has no more points.
+mod entry;
+
+pub use entry::Entry;
+use refusals::Refusal;
+use std::cmp::Ordering;
+
+// A table has exactly this many entries, so a track has no more points. (No heap: what is noted of a table, and a layout, are arrays of as many.)
 pub const POINTS: usize = 64;
-
-// A result's entry comes from the first table's entry s, for s below SECOND; from the second's entry s - SECOND, for s
-// below NEITHER; and else from neither.
-pub const SECOND: u8 = POINTS as u8;
-
-pub const NEITHER: u8 = 2 * SECOND;
 
 // The limit, as the definitions have it.
 pub fn most_points() -> usize
@@ -24,6 +24,7 @@ pub fn most_points() -> usize
 }
 
 // What has been seen of a table so far: whether it may be a track, the last number, and the numbers.
+// The flag stands beside the numbers, and no Result holds them: `noted` says of every table, track or not, which numbers were seen.
 #[derive(Clone, Copy)]
 pub struct Scanned {
     pub track: bool,
@@ -31,21 +32,25 @@ pub struct Scanned {
     pub pictures: [i32; POINTS],
 }
 
+// The table and the count may be a track's.
+fn is_sized(entries: usize, count: usize) -> bool
+    ensures { result ≡ sized entries count }
+{
+    entries == POINTS && count <= POINTS
+}
+
 // How many entries are looked at: none where the table or the count is no track's.
 pub fn extent(entries: usize, count: usize) -> usize
     ensures { result ≡ extent_of entries count }
 {
-    if (entries == POINTS) & (count <= POINTS) {
-        return count;
-    }
-    0
+    if is_sized(entries, count) { count } else { 0 }
 }
 
 pub fn begin(entries: usize, count: usize) -> Scanned
     ensures { result ≡ begun entries count }
 {
     Scanned {
-        track: (entries == POINTS) & (count <= POINTS),
+        track: is_sized(entries, count),
         last: 0,
         pictures: [0; POINTS],
     }
@@ -72,215 +77,133 @@ pub fn note(seen: Scanned, index: usize, picture: i32, usable: bool) -> Scanned
     next
 }
 
-// How a result is to be filled: the answer, and where each entry comes from.
+// Where an entry of a result comes from: an entry of the first table, one of the second, or neither, and then it is a cleared one.
+#[derive(Clone, Copy, Debug, PartialEq, Eq, Hash)]
+pub enum Source {
+    First(Entry),
+    Second(Entry),
+    Neither,
+}
+
+// How a result is to be filled: how many points it has, and where each of the 64 entries comes from.
 #[derive(Clone, Copy)]
 pub struct Layout {
-    pub result: u8,
     pub count: usize,
-    pub sources: [u8; POINTS],
+    pub sources: [Source; POINTS],
 }
 
-// A refusal fills no entry.
-pub fn bound(layout: Layout) -> usize
-    ensures { result ≡ bound_of layout }
-{
-    if layout.result == 0 { POINTS } else { 0 }
-}
-
-pub fn source_at(layout: Layout, index: usize) -> u8
-    requires { index < most_points }
-    ensures { result ≡ source_at layout index }
-{
-    layout.sources[index]
-}
-
-// The first table's entry that a source names, or its first.
-pub fn left(source: u8) -> usize
-    ensures { (result ≡ left_of source) × (result < most_points) }
-{
-    if source < SECOND { source as usize } else { 0 }
-}
-
-// The second table's entry that a source names, or its first.
-pub fn right(source: u8) -> usize
-    ensures { (result ≡ right_of source) × (result < most_points) }
-{
-    if source < SECOND {
-        return 0;
+impl Layout {
+    // Of every entry, in the table's order.
+    pub fn sources(&self) -> &[Source]
+        ensures { (result.now ≡ self.now.sources) × (length result.now ≡ most_points) }
+    {
+        &self.sources
     }
-    if source < NEITHER {
-        return (source - SECOND) as usize;
-    }
-    0
 }
 
 // What comes next in a join, and how many numbers it takes off each track.
 #[derive(Clone, Copy)]
 pub struct Turn {
-    pub source: u8,
+    pub source: Source,
     pub left: usize,
     pub right: usize,
 }
 
-fn take_off(source: u8, left: usize, right: usize) -> Turn
-    ensures { result ≡ taken_off source left right }
+// Of the first track's next number and the second's, each where it is there, the lesser; the second's where they are equal, and then both
+// are done with.
+pub fn choose(e: Entry, first: Option<i32>, f: Entry, second: Option<i32>) -> Turn
+    ensures { result ≡ turn_of (next_of (is_some first) (tag e.at (unwrap_or first (pos 0))) (is_some second) (tag (most_points + f.at) (unwrap_or second (pos 0)))) }
 {
-    Turn {
-        source,
-        left,
-        right,
-    }
-}
-
-// Of the first track's next number, which is there where `remains` says so, and the second's, which is there where
-// `further` says so, the lesser; the second's where they are equal, and then both are done with.
-pub fn choose(remains: bool, e: usize, x: i32, further: bool, f: usize, y: i32) -> Turn
-    requires { (e < most_points) × (f < most_points) }
-    ensures { result ≡ turn_of (next_of remains (tag e x) further (tag (most_points + f) y)) }
-{
-    let first = e as u8;
-    let place = f as u8;
-    let second = SECOND + place;
-    if !further {
-        return take_off(first, 1, 0);
-    }
-    if !remains {
-        return take_off(second, 0, 1);
-    }
-    if x < y {
-        return take_off(first, 1, 0);
-    }
-    if y < x {
-        return take_off(second, 0, 1);
-    }
-    take_off(second, 1, 1)
-}
-
-// A place that is there, whatever the index.
-pub fn clamp(index: usize) -> usize
-    ensures { (result ≡ clamped index) × (result < most_points) }
-{
-    if index < POINTS { index } else { POINTS - 1 }
-}
-
-pub fn refused(number: u8) -> Layout
-    ensures { result ≡ refused_layout number }
-{
-    Layout {
-        result: number,
-        count: 0,
-        sources: [NEITHER; POINTS],
+    let of_first = Turn {
+        source: Source::First(e),
+        left: 1,
+        right: 0,
+    };
+    let of_second = Turn {
+        source: Source::Second(f),
+        left: 0,
+        right: 1,
+    };
+    match (first, second) {
+        (_, None) => of_first,
+        (None, _) => of_second,
+        (Some(x), Some(y)) => match x.cmp(&y) {
+            Ordering::Less => of_first,
+            Ordering::Equal => Turn {
+                left: 1,
+                ..of_second
+            },
+            Ordering::Greater => of_second,
+        },
     }
 }
 
 // Every number of either, in rising order. A 65th is refused: counts are never added.
-pub fn merge(a: [i32; POINTS], n: usize, b: [i32; POINTS], m: usize) -> Layout
-    requires { (n ≤ most_points) × (m ≤ most_points) × RisingTags (first_tags n a) × RisingTags (second_tags m b) }
-    ensures { result ≡ layout_of (merged_sources a n b m) }
+// The loop has its indexes: `choose` says how far each goes on, and no iterator takes from two lists so.
+pub fn merge(a: &[i32], b: &[i32]) -> Result<Layout, Refusal>
+    requires { (length a.now ≤ most_points) × (length b.now ≤ most_points) × RisingTags (tags_from 0 a.now) × RisingTags (tags_from most_points b.now) }
+    ensures { result ≡ layout_of (merged a.now b.now) }
 {
-    let mut out: [u8; POINTS] = [NEITHER; POINTS];
-    let mut i: usize = 0;
-    let mut j: usize = 0;
-    let mut k: usize = 0;
-    while i + j < n + m {
+    let mut out = [Source::Neither; POINTS];
+    let mut i = 0;
+    let mut j = 0;
+    let mut k = 0;
+    while i + j < a.len() + b.len() {
         if k == POINTS {
-            return refused(refusals::TOO_MANY_POINTS);
+            return Err(Refusal::TooManyPoints);
         }
-        let e = clamp(i);
-        let x = a[e];
-        let f = clamp(j);
-        let y = b[f];
-        let turn = choose(i < n, e, x, j < m, f, y);
+        let x = a.get(i).copied();
+        let y = b.get(j).copied();
+        let turn = choose(Entry::at_most(i), x, Entry::at_most(j), y);
         out[k] = turn.source;
-        i = i + turn.left;
-        j = j + turn.right;
+        i += turn.left;
+        j += turn.right;
         k += 1;
     }
-    Layout {
-        result: 0,
+    Ok(Layout {
         count: k,
         sources: out,
-    }
+    })
 }
 
 // The first track, the second, the result's table, and then the number of points.
-pub fn decide(s: Scanned, n: usize, t: Scanned, m: usize, entries: usize) -> Layout
+pub fn decide(s: Scanned, n: usize, t: Scanned, m: usize, entries: usize) -> Result<Layout, Refusal>
     requires { (s.track ≡ true → (n ≤ most_points) × RisingTags (first_tags n s.pictures)) × (t.track ≡ true → (m ≤ most_points) × RisingTags (second_tags m t.pictures)) }
     ensures { result ≡ plan_of s n t m entries }
 {
     if !s.track {
-        return refused(refusals::NOT_A_TRACK);
+        return Err(Refusal::NotATrack);
     }
     if !t.track {
-        return refused(refusals::NOT_A_TRACK);
+        return Err(Refusal::NotATrack);
     }
     if entries != POINTS {
-        return refused(refusals::UNFIT_OUTPUT);
+        return Err(Refusal::UnfitOutput);
     }
-    let a = s.pictures;
-    let b = t.pictures;
-    merge(a, n, b, m)
+    let a = &s.pictures[..n];
+    let b = &t.pictures[..m];
+    merge(a, b)
 }
 
-// How many of the first n numbers, which rise, are not above the picture.
-pub fn reach(pictures: [i32; POINTS], n: usize, picture: i32) -> usize
-    requires { n ≤ most_points }
-    ensures { result ≡ reach_of picture (take n pictures) }
+// How many of the numbers, which rise, are not above the picture. It is no `partition_point`: that asks its caller for the order, and
+// `seek` asks for none.
+pub fn reach(pictures: &[i32], picture: i32) -> usize
+    ensures { result ≡ reach_of picture pictures.now }
 {
-    let mut i: usize = 0;
-    while i < n {
-        let k = pictures[i];
-        if picture < k {
-            return i;
-        }
-        i += 1;
-    }
-    i
+    pictures
+        .iter()
+        .position(|k| picture < *k)
+        .unwrap_or(pictures.len())
 }
 
-// The place of the point in force, where there is one.
-#[derive(Clone, Copy)]
-pub struct Sought {
-    pub result: u8,
-    pub found: bool,
-    pub at: usize,
-}
-
-pub fn seek(seen: Scanned, n: usize, picture: i32) -> Sought
+// The entry of the point in force, where there is one.
+pub fn seek(seen: Scanned, n: usize, picture: i32) -> Result<Option<Entry>, Refusal>
     requires { seen.track ≡ true → n ≤ most_points }
     ensures { result ≡ seek_of seen n picture }
 {
     if !seen.track {
-        return Sought {
-            result: refusals::NOT_A_TRACK,
-            found: false,
-            at: 0,
-        };
+        return Err(Refusal::NotATrack);
     }
-    let pictures = seen.pictures;
-    let k = reach(pictures, n, picture);
-    if k == 0 {
-        return Sought {
-            result: 0,
-            found: false,
-            at: 0,
-        };
-    }
-    Sought {
-        result: 0,
-        found: true,
-        at: k - 1,
-    }
-}
-
-pub fn is_found(f: Sought) -> bool
-    ensures { result ≡ f.found }
-{
-    f.found
-}
-
-pub fn entry_found(f: Sought) -> usize
-    ensures { result ≡ f.at }
-{
-    f.at
+    let k = reach(&seen.pictures[..n], picture);
+    Ok(k.checked_sub(1).map(Entry::at_most))
 }

@@ -7,17 +7,24 @@ use native.Mathlib.Omega.{arith}
 use native.Mathlib.Nat.{zero-add, add-zero}
 use borrow.Author.Tests.{eq-eqb, ne_eqb}
 use lib.Dec.{eqb}
-use lib.ListN.{length, drop, set, length-append}
+use lib.ListN.{length, drop, length-append}
 use lib.Seq.{drop-drop}
-use Rattle.refusals.specs.Refusals.{repeated_target, bytes_remain}
-use Rattle.tree.specs.Reading.{Rule, Fault, number_in, element_in, meets, breaks, Out, ok, no, widened, mapped, to_boundary}
+use Rattle.std.proofs.Common.{Option, Some, Ok, Err}
+use Rattle.refusals.specs.Refusals.{repeated_target}
+use Rattle.refusals.specs.Numbered.{number_of, refusal_of}
+use Rattle.refusals.specs.declared.Refusal.{Refusal}
+use Rattle.refusals.specs.declared.Refusal.TheVariants.{BytesRemain}
+use Rattle.tree.specs.Reading.{Rule, Fault, number_in, meets, breaks, Out, ok, no, widened, mapped, to_boundary}
 use Rattle.tree.specs.Syntax.{Syntax, done, zero_bits, alignment, left_over, read_whole, read, ◌>>=◌}
 use Rattle.tree.proofs.Truth.{clash, range_of_one}
 use Rattle.tree.proofs.Tables.{then_no, then_ok, then_done, then_same, then_then}
-use Rattle.bits.specs.declared.Number.TheVariants.{Is as IsNumber, Refused as RefusedNumber}
-use Rattle.bits.specs.Answer.{nameless, span_of}
+use Rattle.bits.specs.declared.Number.{Number}
+use Rattle.bits.specs.declared.Unread.{Unread}
+use Rattle.bits.specs.Answer.{nameless, unread_as, span_of}
 use Rattle.bits.proofs.Reading.{ToldOf, spans_ok, named_zeros, refused_zeros, widened_none}
 use Rattle.element.specs.declared.Element.{Element as Title}
+use Rattle.element.specs.declared.Refused.{Refused}
+use Rattle.element.specs.Refused.{refused, unread_of}
 use Rattle.element.specs.declared.Element.TheVariants.{DmAlignmentZeroBit, ExtBlockLevel, TargetMaxPq, End as Last}
 use Rattle.record.specs.declared.Block.{Block}
 use Rattle.record.specs.declared.Block.TheVariants.{Nothing, Level1, Level2, Level5}
@@ -30,7 +37,7 @@ use Rattle.record.proofs.Laws.{and_left, and_right, and_both}
 use Rattle.valid.specs.Valid.{is_block, many, valid_block, not_too_many, may_follow, repeat_number, repeat_element, well_formed, with_block}
 use Rattle.valid.proofs.Clauses.{well_formed_more, few_blocks, few_of_level_2}
 use Rattle.valid.proofs.Made.{made_more}
-use Rattle.syntax.specs.Data.{Head, Item, kept, passed, kept_in, passed_in, Data, block, blocks_after, head, first_alignment, ST2094-10_data, bare_data}
+use Rattle.syntax.specs.Data.{Head, announced, Item, kept, passed, kept_in, passed_in, Data, block, blocks_after, head, first_alignment, ST2094-10_data, bare_data}
 use Rattle.syntax.specs.Element.{item_fits, item_follows}
 use Rattle.syntax.proofs.Items.{behind}
 use Rattle.syntax.proofs.Steps.{read-may_follow, read_may_not_follow}
@@ -40,18 +47,17 @@ use Rattle.syntax.proofs.Records.{kept_and_passed}
 use Rattle.syntax.proofs.Reasons.{kept_more}
 use Rattle.syntax.proofs.Named.{not_in_the_wrapper, told_in_bits}
 use Rattle.syntax.specs.Wrapper.{inside_wrapper, told_at}
-use Rattle.syntax.specs.Told.{ToldAs}
+use Rattle.syntax.specs.Told.{ToldAs, Tells, refused_as}
+use Rattle.syntax.proofs.Told.{told_by_number}
 use Rattle.block.specs.Parts.{part_of}
-use Rattle.block.specs.declared.Part.TheVariants.{Kept, Passed, Refused as RefusedPart}
+use Rattle.block.specs.declared.Part.TheVariants.{Kept, Passed}
 use Rattle.block.proofs.Laws.{accepted_few, accepted_fits, part_kept, part_passed, part_no}
 use Rattle.head.specs.Opening.{opening, aligned_head}
-use Rattle.head.proofs.Laws.{zeros_took}
+use Rattle.head.proofs.Laws.{opening_few, zeros_took}
 use Rattle.met.specs.declared.Met.{Met}
-use Rattle.met.specs.Met.{most_targets, target_of, met_of, targets_met}
-use Rattle.met.proofs.Laws.{met_store}
+use Rattle.met.specs.Met.{most_targets, met_of, repeat_of}
 use Rattle.cause.specs.declared.Cause.{Cause}
 use Rattle.cause.specs.Cause.{cause_in}
-use Rattle.reader.specs.declared.End.TheVariants.{Is as IsEnd, Refused as RefusedEnd}
 use Rattle.reader.specs.Reading.{Summary, summary, summary_of, summary_in, accepted_reading, reading_of, refused_reading, end_from, end_of, head_and_blocks}
 
 -- what data comes to
@@ -65,6 +71,9 @@ mapped_ok f (no q) b n e = let z : ◌≡◌ {A = ℕ} 0 1 = cc in clash z
 mapped_no : {A B : Type 0} (f : A → B) (o : Out Name A) (q : Fault Name) → mapped f o ≡ no q → o ≡ no q
 mapped_no f (ok a m) q e = let z : ◌≡◌ {A = ℕ} 0 1 = cc in clash z
 mapped_no f (no r) q e = cc
+
+some_of : {A : Type 0} {a b : A} → Some a ≡ Some b → a ≡ b
+some_of e = cc
 
 -- ---- the blocks
 
@@ -92,10 +101,12 @@ module _ (before : List Block) (k at : ℕ) (s : List Bool) where
   others i o = blocks_after (before ++ kept_in (i ∷ [])) k >>= λ is. done (i ∷ is)
 
   blocks_repeated : (b : Block) (m : ℕ) → read block at s ≡ ok (kept b) m → may_follow before b ≡ false
-      → ToldAs (read (blocks_after before (suc k)) at s) (repeat_number before b) (element_of (repeat_element before b)) at
+      → Tells (read (blocks_after before (suc k)) at s) (refused (refusal_of (repeat_number before b)) (element_of (repeat_element before b)) at)
   blocks_repeated b m e h =
       let r = read_may_not_follow (others (kept b)) (at + m) (drop m s) at before b (fits_block b (own (kept b) m e)) h in
-      (breaks r.0, next-read (kept b) m e ∙ ap (widened m) r.4, sym r.1, ap element_of (sym r.2), sym r.3)
+      let told : refused (refusal_of (repeat_number before b)) (element_of (repeat_element before b)) at ≡ refused_as (breaks r.0) =
+      ap (λ (i : ℕ). refused (refusal_of i) (element_of (repeat_element before b)) at) (sym r.1) ∙ ap (λ (n : Name). refused (refusal_of r.0.number) (element_of n) at) (sym r.2) ∙ ap (refused (refusal_of r.0.number) (element_of r.0.element)) (sym r.3) in
+      (breaks r.0, next-read (kept b) m e ∙ ap (widened m) r.4, told)
 
   -- the rules let it through
   follows : (i : Item) (m : ℕ) → item_fits i ≡ true → item_follows before i ≡ true → read (behind at before k i) (at + m) (drop m s) ≡ read (others i tt) (at + m) (drop m s)
@@ -122,6 +133,24 @@ passed_more [] i = sym (zero-add (passed_in (i ∷ [])))
 passed_more (kept b ∷ is) i = passed_more is i
 passed_more (passed l n zs ∷ is) i = omega (arith, passed_more is i)
 
+-- a repeat has its own number
+repeat_is_named : (before : List Block) (b : Block) → is_block b ≡ true → number_of (refusal_of (repeat_number before b)) ≡ repeat_number before b
+repeat_is_named before b h = go (not_too_many before b) b h
+  where
+    go : (t : Bool) (b : Block) → is_block b ≡ true → number_of (refusal_of (cond t repeated_target (level (level_of b)).surplus)) ≡ cond t repeated_target (level (level_of b)).surplus
+    go true b h = refl
+    go false Nothing h = let z : ◌≡◌ {A = ℕ} 0 1 = cc in clash z
+    go false (Level1 min max avg) h = refl
+    go false (Level2 t s o p c g m) h = refl
+    go false (Level5 l r t b) h = refl
+
+-- and a block that is one is named by what the code keeps
+repeat_there : (before : List Block) (b : Block) → is_block b ≡ true → repeat_of before b ≡ Some (refusal_of (repeat_number before b))
+repeat_there before Nothing h = let z : ◌≡◌ {A = ℕ} 0 1 = cc in clash z
+repeat_there before (Level1 min max avg) h = refl
+repeat_there before (Level2 t s o p c g m) h = refl
+repeat_there before (Level5 l r t b) h = refl
+
 -- the number of a repeat tells what it is about
 repeat_named : (before : List Block) (b : Block) (number : ℕ) → number ≡ repeat_number before b → cond (eqb number repeated_target) TargetMaxPq ExtBlockLevel ≡ element_of (repeat_element before b)
 repeat_named before b number e = rw e (go (not_too_many before b) b)
@@ -133,7 +162,7 @@ repeat_named before b number e = rw e (go (not_too_many before b) b)
     go false (Level2 t s o p c g m) = refl
     go false (Level5 l r t b) = refl
 
--- the walk over n blocks: i are met, they took `width` bits, r holds the known ones, m and ts what is kept of them, and the others are
+-- the walk over n blocks: i are met, they took `width` bits, r holds the known ones, m what is kept of them, and the others are
 -- `skipped`; the answer from here is the answer from the start
 module _ (flag : Bool) (bits : List Bool) (start n : ℕ) where
   abbrev all_of : Out Name Summary
@@ -142,7 +171,7 @@ module _ (flag : Bool) (bits : List Bool) (start n : ℕ) where
   abbrev from : List Item → ℕ → ℕ → Out Name Summary
   from met width i = widened width (mapped (λ rest. summary_of flag (met ++ rest)) (read (blocks_after (kept_in met) (n - i)) (start + width) (drop (start + width) bits)))
 
-pub record Reached (flag : Bool) (bits : List Bool) (start n : ℕ) (r : Record) (m : Met) (ts : List ℕ) (width skipped i : ℕ) : Type 0 where
+pub record Reached (flag : Bool) (bits : List Bool) (start n : ℕ) (r : Record) (m : Met) (width skipped i : ℕ) : Type 0 where
   pub met : List Item
   pub few : i ≤ n
   pub many : length met ≡ i
@@ -150,12 +179,11 @@ pub record Reached (flag : Bool) (bits : List Bool) (start n : ℕ) (r : Record)
   pub walk : well_formed [] (kept_in met) ≡ true
   pub made : r ≡ record_of flag (kept_in met)
   pub counted : m ≡ met_of (kept_in met)
-  pub aimed : ts ≡ targets_met (kept_in met)
   pub others : skipped ≡ passed_in met
   pub answer : from flag bits start n met width i ≡ all_of flag bits start n
 
 module _ (flag : Bool) (bits : List Bool) (start n : ℕ) where
-  pub reached_none : Reached flag bits start n (no_blocks flag) (met_of []) (targets_met []) 0 0 0
+  pub reached_none : Reached flag bits start n (no_blocks flag) (met_of []) 0 0 0
   unfolding kept_in passed_in well_formed
   reached_none =
       let e : n - 0 ≡ n = omega arith in
@@ -167,138 +195,152 @@ module _ (flag : Bool) (bits : List Bool) (start n : ℕ) where
         walk = refl;
         made = refl;
         counted = refl;
-        aimed = refl;
         others = refl;
         answer = rw (e, add-zero start) (widened_none (all_of flag bits start n));
       }
 
-  module _ (r : Record) (m : Met) (ts : List ℕ) (width skipped i : ℕ) (x : Reached flag bits start n r m ts width skipped i) where
-    abbrev known : List Block
-    known = kept_in x.met
+module _ {flag : Bool} {bits : List Bool} {start n : ℕ} {r : Record} {m : Met} {width skipped i : ℕ} (x : Reached flag bits start n r m width skipped i) where
+  abbrev known : List Block
+  known = kept_in x.met
 
-    pub reached_few : skipped ≤ i
-    reached_few = omega (arith, x.others, x.many, kept_and_passed x.met)
+  pub reached_few : skipped ≤ i
+  reached_few = omega (arith, x.others, x.many, kept_and_passed x.met)
 
-    -- of level 2 there are no more than there may be
-    reached_twos : many 2 known ≤ most_targets
-    reached_twos = few_of_level_2 known x.walk
+  -- all that is read lies near the start
+  pub reached_near : read opening 0 bits ≡ ok (announced flag n) start → (start + width < 134217728) × (n ≤ 254) × (skipped ≤ 254)
+  reached_near e =
+      let few = opening_few bits (announced flag n) start e in
+      (omega (arith, few, x.short, x.few), omega (arith, few), omega (arith, few, reached_few, x.few))
 
-    pub reached_counted : m.twos ≤ most_targets
-    reached_counted = rw x.counted reached_twos
+  -- of level 2 there are no more than there may be
+  reached_twos : many 2 known ≤ most_targets
+  reached_twos = few_of_level_2 known x.walk
 
-    pub reached_all : i ≡ n → all_of flag bits start n ≡ ok (summary r skipped) width
-    unfolding blocks_after read
-    reached_all h =
-        let e : n - i ≡ 0 = omega arith in
-        sym x.answer ∙ rw (e, append-nil x.met, add-zero width, x.made, x.others) refl
+  pub reached_counted : m.twos ≤ most_targets
+  reached_counted = rw x.counted reached_twos
 
-    module _ (h : i < n) where
-      next : n - i ≡ suc (n - (i + 1))
-      next = omega arith
+  pub reached_all : i ≡ n → all_of flag bits start n ≡ ok (summary r skipped) width
+  unfolding blocks_after read
+  reached_all h =
+      let e : n - i ≡ 0 = omega arith in
+      sym x.answer ∙ rw (e, append-nil x.met, add-zero width, x.made, x.others) refl
 
-      abbrev there : ℕ
-      there = start + width
+  module _ (h : i < n) where
+    next : n - i ≡ suc (n - (i + 1))
+    next = omega arith
 
-      -- what is read from here on
-      onward : (o : Out Name (List Item)) → read (blocks_after known (suc (n - (i + 1)))) there (drop there bits) ≡ o → all_of flag bits start n ≡ widened width (mapped (λ rest. summary_of flag (x.met ++ rest)) o)
-      onward o e = sym x.answer ∙ rw (next, e) refl
+    abbrev there : ℕ
+    there = start + width
 
-      pub reached_no : (j : ℕ) (x : Title) (w : ℕ) → RefusedPart j x w ≡ part_of (read block there (drop there bits)) → ToldAs (all_of flag bits start n) j x w
-      reached_no j x w e =
-          let f = part_no (read block there (drop there bits)) j x w e in
-          (f.0, onward (no f.0) (blocks_no known (n - (i + 1)) there (drop there bits) f.0 f.1), f.2, f.3, f.4)
+    -- what is read from here on
+    onward : (o : Out Name (List Item)) → read (blocks_after known (suc (n - (i + 1)))) there (drop there bits) ≡ o → all_of flag bits start n ≡ widened width (mapped (λ rest. summary_of flag (x.met ++ rest)) o)
+    onward o e = sym x.answer ∙ rw (next, e) refl
 
-      -- with a block more, where it may follow
-      reached_item : (j : Item) (w : ℕ) → read block there (drop there bits) ≡ ok j w → item_follows known j ≡ true → (q : Record) (p : Met) (us : List ℕ) (k : ℕ)
-          → well_formed [] (kept_in (x.met ++ (j ∷ []))) ≡ true → q ≡ record_of flag (kept_in (x.met ++ (j ∷ []))) → p ≡ met_of (kept_in (x.met ++ (j ∷ []))) → us ≡ targets_met (kept_in (x.met ++ (j ∷ [])))
-          → k ≡ passed_in (x.met ++ (j ∷ [])) → Reached flag bits start n q p us (width + w) k (i + 1)
-      reached_item j w e g q p us k walk made counted aimed others =
-          let t = accepted_few there (drop there bits) j w e in
-          let c = x.many in
-          let d : start + (width + w) ≡ there + w = omega arith in
-          let after = known ++ kept_in (j ∷ []) in
-          let rest = read (blocks_after after (n - (i + 1))) (there + w) (drop (there + w) bits) in
-          let y = onward _ (blocks_more known (n - (i + 1)) there (drop there bits) j w e g) in
-          let z : from flag bits start n (x.met ++ (j ∷ [])) (width + w) (i + 1) ≡ all_of flag bits start n =
-          rw (d, kept_more x.met j) (regroup flag x.met j width w rest) ∙ sym (rw (drop-drop w there bits) at y) in
-          record {
-            met = x.met ++ (j ∷ []);
-            few = omega arith;
-            many = omega (arith, length-append x.met (j ∷ []));
-            short = omega (arith, t);
-            walk = walk;
-            made = made;
-            counted = counted;
-            aimed = aimed;
-            others = others;
-            answer = z;
-          }
+    pub reached_no : {why : Refused} → Err why ≡ part_of (read block there (drop there bits)) → Tells (all_of flag bits start n) why
+    reached_no {why} e =
+        let f = part_no (read block there (drop there bits)) why e in
+        (f.0, onward (no f.0) (blocks_no known (n - (i + 1)) there (drop there bits) f.0 f.1), f.2)
 
-      -- passed over
-      pub reached_past : (w : ℕ) → Passed w ≡ part_of (read block there (drop there bits)) → Reached flag bits start n r m ts (width + w) (skipped + 1) (i + 1)
-      unfolding kept_in passed_in
-      reached_past w e =
-          let o = part_passed (read block there (drop there bits)) w e in
-          let j = passed o.0 o.1 o.2 in
-          let kept : kept_in (x.met ++ (j ∷ [])) ≡ known = kept_more x.met j ∙ append-nil known in
-          reached_item j w o.3 refl r m ts (skipped + 1) (rw kept x.walk) (x.made ∙ ap (record_of flag) (sym kept)) (x.counted ∙ ap met_of (sym kept)) (x.aimed ∙ ap targets_met (sym kept))
-          (omega (arith, x.others, passed_more x.met j))
+    -- with a block more, where it may follow
+    reached_item : (j : Item) (w : ℕ) → read block there (drop there bits) ≡ ok j w → item_follows known j ≡ true → (q : Record) (p : Met) (k : ℕ)
+        → well_formed [] (kept_in (x.met ++ (j ∷ []))) ≡ true → q ≡ record_of flag (kept_in (x.met ++ (j ∷ []))) → p ≡ met_of (kept_in (x.met ++ (j ∷ [])))
+        → k ≡ passed_in (x.met ++ (j ∷ [])) → Reached flag bits start n q p (width + w) k (i + 1)
+    reached_item j w e g q p k walk made counted others =
+        let t = accepted_few there (drop there bits) j w e in
+        let c = x.many in
+        let d : start + (width + w) ≡ there + w = omega arith in
+        let after = known ++ kept_in (j ∷ []) in
+        let rest = read (blocks_after after (n - (i + 1))) (there + w) (drop (there + w) bits) in
+        let y = onward _ (blocks_more known (n - (i + 1)) there (drop there bits) j w e g) in
+        let z : from flag bits start n (x.met ++ (j ∷ [])) (width + w) (i + 1) ≡ all_of flag bits start n =
+        rw (d, kept_more x.met j) (regroup flag x.met j width w rest) ∙ sym (rw (drop-drop w there bits) at y) in
+        record {
+          met = x.met ++ (j ∷ []);
+          few = omega arith;
+          many = omega (arith, length-append x.met (j ∷ []));
+          short = omega (arith, t);
+          walk = walk;
+          made = made;
+          counted = counted;
+          others = others;
+          answer = z;
+        }
 
-      module _ (b : Block) (w : ℕ) (e : Kept w b ≡ part_of (read block there (drop there bits))) where
-        one_read : read block there (drop there bits) ≡ ok (kept b) w
-        one_read = part_kept (read block there (drop there bits)) b w e
+    -- passed over
+    pub reached_past : {w : ℕ} → Ok (Passed w) ≡ part_of (read block there (drop there bits)) → Reached flag bits start n r m (width + w) (skipped + 1) (i + 1)
+    unfolding kept_in passed_in
+    reached_past {w} e =
+        let o = part_passed (read block there (drop there bits)) w e in
+        let j = passed o.0 o.1 o.2 in
+        let kept : kept_in (x.met ++ (j ∷ [])) ≡ known = kept_more x.met j ∙ append-nil known in
+        reached_item j w o.3 refl r m (skipped + 1) (rw kept x.walk) (x.made ∙ ap (record_of flag) (sym kept)) (x.counted ∙ ap met_of (sym kept))
+        (omega (arith, x.others, passed_more x.met j))
 
-        its_own : valid_block b ≡ true
-        its_own = own known 0 there (drop there bits) (kept b) w one_read
+    module _ {b : Block} {w : ℕ} (e : Ok (Kept w b) ≡ part_of (read block there (drop there bits))) where
+      one_read : read block there (drop there bits) ≡ ok (kept b) w
+      one_read = part_kept (read block there (drop there bits)) b w e
 
-        pub reached_range : in_range b ≡ true
-        reached_range = and_right (is_block b) (in_range b) (and_left (is_block b && in_range b) (in_order b) its_own)
+      its_own : valid_block b ≡ true
+      its_own = own known 0 there (drop there bits) (kept b) w one_read
 
-        -- what is kept of the blocks decides
-        module _ (test : Bool) (decided : (before : List Block) → m ≡ met_of before → ts ≡ targets_met before → test ≡ may_follow before b) where
-          may_follow_is : test ≡ may_follow known b
-          may_follow_is = decided known x.counted x.aimed
+      pub reached_range : in_range b ≡ true
+      reached_range = and_right (is_block b) (in_range b) (and_left (is_block b && in_range b) (in_order b) its_own)
 
-          -- and which repeat it is
-          pub reached_repeated : test ≡ false → (number : ℕ) → ((before : List Block) → m ≡ met_of before → may_follow before b ≡ false → number ≡ repeat_number before b)
-              → (name : Title) → name ≡ cond (eqb number repeated_target) TargetMaxPq ExtBlockLevel → ToldAs (all_of flag bits start n) number name there
-          reached_repeated f number told name title =
-              let may-not = sym may_follow_is ∙ f in
+      -- what is kept of the blocks decides
+      module _ {test : Bool} (decided : (before : List Block) → m ≡ met_of before → test ≡ may_follow before b) where
+        may_follow_is : test ≡ may_follow known b
+        may_follow_is = decided known x.counted
+
+        -- and which repeat it is
+        module _ (f : test ≡ false) {told : Option Refusal} (tells : (before : List Block) → m ≡ met_of before → may_follow before b ≡ false → told ≡ repeat_of before b) where
+          may-not : may_follow known b ≡ false
+          may-not = sym may_follow_is ∙ f
+
+          a_block : is_block b ≡ true
+          a_block = fits_block known 0 there (drop there bits) b its_own
+
+          pub reached_told : told ≡ Some (refusal_of (repeat_number known b))
+          reached_told = tells known x.counted may-not ∙ repeat_there known b a_block
+
+          pub reached_repeated : {refusal : Refusal} → told ≡ Some refusal → {name : Title} → name ≡ cond (eqb (number_of refusal) repeated_target) TargetMaxPq ExtBlockLevel
+              → Tells (all_of flag bits start n) (refused refusal name there)
+          reached_repeated {refusal} own {name} title =
               let y = blocks_repeated known (n - (i + 1)) there (drop there bits) b w one_read may-not in
-              let j = told known x.counted may-not in
-              (y.0, onward (no y.0) y.1, j ∙ y.2, title ∙ repeat_named known b number j ∙ y.3, y.4)
+              let same : refusal ≡ refusal_of (repeat_number known b) = some_of (sym own ∙ reached_told) in
+              let number : number_of refusal ≡ repeat_number known b = ap number_of same ∙ repeat_is_named known b a_block in
+              let element : name ≡ element_of (repeat_element known b) = title ∙ repeat_named known b (number_of refusal) number in
+              (y.0, onward (no y.0) y.1, rw (same, element) y.2)
 
-          module _ (f : test ≡ true) where
-            may : may_follow known b ≡ true
-            may = sym may_follow_is ∙ f
+        module _ (f : test ≡ true) where
+          may : may_follow known b ≡ true
+          may = sym may_follow_is ∙ f
 
-            -- one known block more passes the walk too
-            walked : well_formed [] (known ++ (b ∷ [])) ≡ true
-            walked =
-                well_formed_more known b
-                ∙ and_both (well_formed [] known) (valid_block b && may_follow known b) x.walk (and_both (valid_block b) (may_follow known b) its_own may)
+          -- one known block more passes the walk too
+          walked : well_formed [] (known ++ (b ∷ [])) ≡ true
+          walked =
+              well_formed_more known b
+              ∙ and_both (well_formed [] known) (valid_block b && may_follow known b) x.walk (and_both (valid_block b) (may_follow known b) its_own may)
 
-            -- so there is a place for it
-            pub reached_room : r.count < most_blocks
-            reached_room = omega (arith, ap (λ (q : Record). q.count) x.made, length-append known (b ∷ []), few_blocks (known ++ (b ∷ [])) walked)
+          -- so there is a place for it
+          pub reached_room : r.count < most_blocks
+          reached_room = omega (arith, ap (λ (q : Record). q.count) x.made, length-append known (b ∷ []), few_blocks (known ++ (b ∷ [])) walked)
 
-            pub reached_more : (p : Met) → ((before : List Block) → m ≡ met_of before → p ≡ met_of (before ++ (b ∷ []))) → Reached flag bits start n (with_block r b) p (set ts m.twos (target_of b)) (width + w) skipped (i + 1)
-            unfolding kept_in passed_in
-            reached_more p more =
-                let k = kept_more x.met (kept b) in
-                let l : length known < most_blocks = omega (arith, reached_room, ap (λ (q : Record). q.count) x.made) in
-                reached_item (kept b) w one_read may (with_block r b) p (set ts m.twos (target_of b)) skipped (rw k walked)
-                (ap (λ (q : Record). with_block q b) x.made ∙ made_more flag known b l ∙ ap (record_of flag) (sym k))
-                (more known x.counted ∙ ap met_of (sym k))
-                (rw (x.aimed, x.counted) (met_store known b reached_twos) ∙ ap targets_met (sym k)) (omega (arith, x.others, passed_more x.met (kept b)))
+          pub reached_more : {p : Met} → ((before : List Block) → m ≡ met_of before → p ≡ met_of (before ++ (b ∷ []))) → Reached flag bits start n (with_block r b) p (width + w) skipped (i + 1)
+          unfolding kept_in passed_in
+          reached_more {p} more =
+              let k = kept_more x.met (kept b) in
+              let l : length known < most_blocks = omega (arith, reached_room, ap (λ (q : Record). q.count) x.made) in
+              reached_item (kept b) w one_read may (with_block r b) p skipped (rw k walked)
+              (ap (λ (q : Record). with_block q b) x.made ∙ made_more flag known b l ∙ ap (record_of flag) (sym k))
+              (more known x.counted ∙ ap met_of (sym k)) (omega (arith, x.others, passed_more x.met (kept b)))
 
 -- ---- answers
 
-pub end_told : (o : Out Name ℕ) (j : ℕ) (x : Title) (w : ℕ) → RefusedEnd j x w ≡ end_of o → ToldAs o j x w
-end_told (ok a m) j x w e = let z : ◌≡◌ {A = ℕ} 0 1 = cc in clash z
-end_told (no f) j x w e = (f, refl, cc, cc, cc)
+pub end_told : (o : Out Name ℕ) (why : Refused) → Err why ≡ end_of o → Tells o why
+end_told (ok a m) why e = let z : ◌≡◌ {A = ℕ} 0 1 = cc in clash z
+end_told (no f) why e = (f, refl, cc)
 
-pub end_there : (o : Out Name ℕ) (bits : ℕ) → IsEnd bits ≡ end_of o → (n : ℕ) × (o ≡ ok bits n)
+pub end_there : (o : Out Name ℕ) (bits : ℕ) → Ok bits ≡ end_of o → (n : ℕ) × (o ≡ ok bits n)
 end_there (ok a m) bits e = let x : a ≡ bits = cc in (m, ap (λ (k : ℕ). ok k m) x)
 end_there (no f) bits e = let z : ◌≡◌ {A = ℕ} 0 1 = cc in clash z
 
@@ -398,39 +440,39 @@ zeros_then_end : (s : List Bool) (at m : ℕ) → read (alignment dm_alignment_z
 zeros_then_end s at m e = rw (e, drop-drop m at s) refl
 
 -- what `read_end` finds: no zero bits; zero bits, behind which bytes remain; and the end
-module _ (at : ℕ) (s : List Bool) where
+module _ (at : ℕ) (s : List Bool) (k : ℕ) (own : k ≡ to_boundary at) where
   abbrev gap : Out (Unit {0}) (Unit {0})
-  gap = read (zero_bits nameless (to_boundary at)) at (drop at s)
+  gap = read (zero_bits nameless k) at (drop at s)
 
-  aligned : read (alignment dm_alignment_zero_bit) at (drop at s) ≡ read (zero_bits dm_alignment_zero_bit (to_boundary at)) at (drop at s)
+  aligned : read (alignment dm_alignment_zero_bit) at (drop at s) ≡ read (zero_bits dm_alignment_zero_bit k) at (drop at s)
   unfolding read
-  aligned = refl
+  aligned = rw own refl
 
-  pub end_refused : (j w : ℕ) → RefusedNumber j w ≡ span_of gap → RefusedEnd j DmAlignmentZeroBit w ≡ end_of (end_from at (drop at s))
-  end_refused j w e = go (refused_zeros dm_alignment_zero_bit at (drop at s) j w (to_boundary at) e)
+  pub end_refused : (why : Unread) → Err why ≡ span_of gap → Err (unread_of DmAlignmentZeroBit why) ≡ end_of (end_from at (drop at s))
+  end_refused why e = go (refused_zeros dm_alignment_zero_bit at (drop at s) why k e)
     where
-      go : ToldOf (read (zero_bits dm_alignment_zero_bit (to_boundary at)) at (drop at s)) j dm_alignment_zero_bit w → RefusedEnd j DmAlignmentZeroBit w ≡ end_of (end_from at (drop at s))
-      go (f, q, x, n, y) =
+      go : ToldOf (read (zero_bits dm_alignment_zero_bit k) at (drop at s)) dm_alignment_zero_bit why → Err (unread_of DmAlignmentZeroBit why) ≡ end_of (end_from at (drop at s))
+      go (f, q, n, u) =
           let z : end_from at (drop at s) ≡ no f = rw (aligned, q) refl in
-          ap (λ (k : ℕ). RefusedEnd k DmAlignmentZeroBit w) x ∙ ap (λ (m : Name). RefusedEnd (number_in f) (element_of m) w) n ∙ ap (RefusedEnd (number_in f) (element_of (element_in f))) y ∙ sym (ap end_of z)
+          rw u (ap (λ (m : Name). Err (unread_of (element_of m) (unread_as f))) n ∙ sym (ap end_of z))
 
-  module _ (z m : ℕ) (e : IsNumber z m ≡ span_of gap) where
-    gap_read : read (zero_bits dm_alignment_zero_bit (to_boundary at)) at (drop at s) ≡ ok tt m
-    gap_read = spans_ok (read (zero_bits dm_alignment_zero_bit (to_boundary at)) at (drop at s)) z m (e ∙ named_zeros dm_alignment_zero_bit (to_boundary at) at (drop at s))
+  module _ (zeros : Number) (e : Ok zeros ≡ span_of gap) where
+    gap_read : read (zero_bits dm_alignment_zero_bit k) at (drop at s) ≡ ok tt zeros.width
+    gap_read = spans_ok (read (zero_bits dm_alignment_zero_bit k) at (drop at s)) zeros.value zeros.width (e ∙ named_zeros dm_alignment_zero_bit k at (drop at s))
 
-    pub gap_took : m ≡ to_boundary at
-    gap_took = zeros_took dm_alignment_zero_bit (to_boundary at) at (drop at s) m gap_read
+    pub gap_took : zeros.width ≡ k
+    gap_took = zeros_took dm_alignment_zero_bit k at (drop at s) zeros.width gap_read
 
     abbrev left : ℕ
-    left = length (drop (at + m) s) / 8
+    left = length (drop (at + zeros.width) s) / 8
 
-    end_test : end_from at (drop at s) ≡ widened m (cond (eqb left 0) (ok (at + m) 0) (no (breaks (rest s (at + m)))))
-    end_test = zeros_then_end s at m (aligned ∙ gap_read) ∙ rw (range_of_one 0 left) refl
+    end_test : end_from at (drop at s) ≡ widened zeros.width (cond (eqb left 0) (ok (at + zeros.width) 0) (no (breaks (rest s (at + zeros.width)))))
+    end_test = zeros_then_end s at zeros.width (aligned ∙ gap_read) ∙ rw (range_of_one 0 left) refl
 
-    pub end_remains : (left ≡ 0 → ⊥) → RefusedEnd bytes_remain Last (at + m) ≡ end_of (end_from at (drop at s))
+    pub end_remains : (left ≡ 0 → ⊥) → Err (refused BytesRemain Last (at + zeros.width)) ≡ end_of (end_from at (drop at s))
     end_remains h = sym (ap end_of end_test ∙ rw (ne_eqb left 0 h) refl)
 
-    pub end_is : left ≡ 0 → IsEnd (at + m) ≡ end_of (end_from at (drop at s))
+    pub end_is : left ≡ 0 → Ok (at + zeros.width) ≡ end_of (end_from at (drop at s))
     end_is h = sym (ap end_of end_test ∙ rw (eq-eqb left 0 h) refl)
 
 module _ (s : List Bool) where
@@ -441,9 +483,13 @@ module _ (s : List Bool) where
       ap (λ (i : ℕ). refused_reading i w false c) k ∙ ap (λ (at : ℕ). refused_reading (number_in f) at false c) in-bits ∙ ap (λ (b : Bool). refused_reading (number_in f) (told_at f) b c) (sym (not_in_the_wrapper s f e))
       ∙ ap (refused_reading (number_in f) (told_at f) (inside_wrapper f)) (q ∙ ap cause_in e) ∙ sym (ap reading_of e)
 
+  -- and of which it has the refusal
+  pub by_refusal : (why : Refused) → Tells (bare_data s) why → (c : Cause) → c ≡ cause_in (bare_data s) → refused_reading (number_of why.refusal) why.offset false c ≡ reading_of (bare_data s)
+  by_refusal why t = by_told (number_of why.refusal) why.element why.offset (told_by_number s why t)
+
   -- a part that is refused refuses the data
-  pub told_on : {A : Type 0} (o : Out Name A) (j : ℕ) (x : Title) (w : ℕ) → ToldAs o j x w → ((f : Fault Name) → o ≡ no f → bare_data s ≡ no f) → ToldAs (bare_data s) j x w
-  told_on o j x w (f, e, k, n, y) on = (f, on f e, k, n, y)
+  pub told_on : {A : Type 0} (o : Out Name A) (why : Refused) → Tells o why → ((f : Fault Name) → o ≡ no f → bare_data s ≡ no f) → Tells (bare_data s) why
+  told_on o why (f, e, t) on = (f, on f e, t)
 
   data_refused : (f : Fault Name) → mapped summary_in (read ST2094-10_data 0 s) ≡ no f → bare_data s ≡ no f
   unfolding read_whole

@@ -1,19 +1,19 @@
 -- What reading answers, and on the way to it; and the table as far as the last block.
-use Rattle.std.specs.Prelude.{ℕ, List, [], Bool, false, cond}
+use Rattle.std.specs.Prelude.{ℕ, Result, Ok, Err, List, [], Bool, false, cond}
 use Rattle.tree.specs.Bits.{bits_of}
-use Rattle.tree.specs.Reading.{meets, breaks, number_in, offset_in, element_in, Out, ok, no, and_then}
+use Rattle.tree.specs.Reading.{meets, breaks, number_in, Out, ok, no, and_then}
 use Rattle.tree.specs.Syntax.{Syntax, done, ◌>>=◌, read, alignment, left_over}
 use Rattle.record.specs.declared.Record.{Record}
-use Rattle.record.specs.Name.{Name, element_of, dm_alignment_zero_bit, «end»}
+use Rattle.element.specs.declared.Refused.{Refused}
+use Rattle.record.specs.Name.{Name, dm_alignment_zero_bit, «end»}
 use Rattle.record.specs.Made.{record_of}
 use Rattle.record.specs.Blocks.{empty_record}
 use Rattle.syntax.specs.Data.{Item, kept_in, passed_in, Data, record_from, blocks_after, bare_data}
 use Rattle.syntax.specs.Wrapper.{inside_wrapper, told_at}
+use Rattle.syntax.specs.Told.{refused_as}
 use Rattle.head.specs.Opening.{opening}
 use Rattle.cause.specs.declared.Cause.{Cause}
 use Rattle.cause.specs.Cause.{nothing, cause_of}
-use Rattle.reader.specs.declared.End.{End}
-use Rattle.reader.specs.declared.End.TheVariants.{Is, Refused}
 use Rattle.reader.specs.declared.Reading.{Reading}
 
 -- 01, The record: an accepted reading gives the record and the bits read, and by 02, b the number of blocks passed over; on a refusal
@@ -58,9 +58,9 @@ abbrev pub end_from : ℕ → List Bool → Out Name ℕ
 end_from at s = and_then (read (alignment dm_alignment_zero_bit) at s) (λ z q t. cond (meets (left_over «end» q t)) (ok q 0) (no (breaks (left_over «end» q t)))) at s
 
 -- by what the code tells of it
-abbrev pub end_of : Out Name ℕ → End
-end_of (ok bits n) = Is bits
-end_of (no f) = Refused (number_in f) (element_of (element_in f)) (offset_in f)
+abbrev pub end_of : Out Name ℕ → Result ℕ Refused
+end_of (ok bits n) = Ok bits
+end_of (no f) = Err (refused_as f)
 
 -- what stands before the blocks, and the blocks
 unfoldable pub head_and_blocks : Syntax Name Summary

@@ -1,27 +1,28 @@
 // Reads ST2094-10_data from a lent slice.
 #![tactic(auto)]
 
-ghost use Rattle.std.specs.Prelude.{◌≡◌, false, cond, ◌<◌, ◌^◌, eqb, drop};
+ghost use Rattle.std.specs.Prelude.{◌≡◌, cond, ◌<◌, ◌^◌, eqb, drop};
 ghost use Rattle.refusals.specs.Refusals.{repeated_target};
+ghost use Rattle.refusals.specs.Numbered.{number_of};
 ghost use Rattle.tree.specs.Bits.{bits_of};
 ghost use Rattle.tree.specs.Reading.{ok};
 ghost use Rattle.tree.specs.Syntax.{read};
 ghost use Rattle.element.specs.declared.Element.TheVariants.{ExtBlockLevel, TargetMaxPq};
 ghost use Rattle.syntax.specs.Data.{announced, bare_data};
-ghost use Rattle.syntax.specs.Told.{ToldAs};
+ghost use Rattle.syntax.specs.Told.{Tells};
 ghost use Rattle.head.specs.Opening.{opening};
 ghost use Rattle.reader.specs.Reading.{refused_reading, unplaced, read_bare, end_from, end_of};
 
-use bits::Number;
 use block::Part;
 use cause::Cause;
-use element::Element;
-use head::Opening;
+use element::{Element, Refused};
 use met::Met;
 use record::{Place, Record};
+use refusals::Refusal;
 
 // 0 or the number of the refusal, the number of blocks of reserved levels that were passed over and whether a refusal is in the wrapper
 // (beside it, where they take no room of their own), the bits read, where a refused element begins, why it is refused, and the record.
+// (A number and no Result: by 01, on a refusal the bits read are 0 and the record is empty, and README names the fields.)
 #[derive(Clone, Copy)]
 pub struct Reading {
     pub result: u8,
@@ -33,90 +34,62 @@ pub struct Reading {
     pub record: Record,
 }
 
-// 01, The record: beside a refusal the record is empty.
-fn with_cause(number: u8, offset: u32, cause: Cause) -> Reading
-    ensures { result ≡ refused_reading number offset false cause }
-{
-    let record = Record::empty();
-    Reading {
-        result: number,
-        skipped: 0,
-        in_wrapper: false,
-        bits: 0,
-        offset,
-        cause,
-        record,
+impl Reading {
+    // 01, The record: beside a refusal the record is empty. 02, e: a fault in the wrapper is marked.
+    pub fn refused(number: u8, offset: u32, in_wrapper: bool, cause: Cause) -> Self
+        ensures { result ≡ refused_reading number offset in_wrapper cause }
+    {
+        let record = Record::empty();
+        Reading {
+            result: number,
+            skipped: 0,
+            in_wrapper,
+            bits: 0,
+            offset,
+            cause,
+            record,
+        }
     }
 }
 
-// 02, e and f: a refusal of no element, as of a unit, has no place and no cause.
+// 02, e and f: a refusal of no element, as of a unit, has no place and no cause. (It takes a number, as it promises its answer for each.)
 pub fn unplaced(number: u8) -> Reading
     ensures { result ≡ unplaced number }
 {
-    with_cause(number, 0, cause::nothing())
+    Reading::refused(number, 0, false, cause::nothing())
 }
 
 // Data that is refused: what is not known of it yet is read again where the element begins.
-fn refused(s: &[u8], number: u8, element: Element, offset: u32) -> Reading
-    requires { ToldAs (bare_data (bits_of s.now)) number element offset }
+fn refused_data(s: &[u8], why: Refused) -> Reading
+    requires { Tells (bare_data (bits_of s.now)) why }
     ensures { result ≡ read_bare s.now }
 {
-    with_cause(
-        number,
-        offset,
-        cause::cause_at(s, number, element, offset as usize),
-    )
+    let cause = cause::cause_at(s, why);
+    Reading::refused(why.refusal.number(), why.offset as u32, false, cause)
 }
 
-// The element that a repeat is about, by its number.
-fn repeated(number: u8) -> Element
-    ensures { result ≡ cond (eqb number repeated_target) TargetMaxPq ExtBlockLevel }
+// The element that a repeat is about.
+fn repeated(refusal: Refusal) -> Element
+    ensures { result ≡ cond (eqb (number_of refusal) repeated_target) TargetMaxPq ExtBlockLevel }
 {
-    if number == refusals::REPEATED_TARGET {
-        Element::TargetMaxPq
-    } else {
-        Element::ExtBlockLevel
+    match refusal {
+        Refusal::RepeatedTarget => Element::TargetMaxPq,
+        _ => Element::ExtBlockLevel,
     }
 }
 
-// The position where the data ends, or why it does not.
-#[derive(Clone, Copy)]
-enum End {
-    Is {
-        bits: u32,
-    },
-    Refused {
-        number: u8,
-        element: Element,
-        offset: u32,
-    },
-}
-
-// What stands behind the last block: zero bits to the next byte boundary, where the input ends.
-fn read_end(s: &[u8], at: usize) -> End
+// What stands behind the last block: zero bits to the next byte boundary, where the input ends. The answer is the position there.
+fn read_end(s: &[u8], at: usize) -> Result<u32, Refused>
     requires { at < 2 ^ 30 }
     ensures { result ≡ end_of (end_from at (drop at (bits_of s.now))) }
 {
-    match bits::read_zeros(s, at, head::zeros_behind(true, at)) {
-        Number::Refused { number, offset } => End::Refused {
-            number,
-            element: Element::DmAlignmentZeroBit,
-            offset,
-        },
-        Number::Is { width, .. } => {
-            let end = at + width;
-            let bits = end as u32;
-            if end / 8 < s.len() {
-                End::Refused {
-                    number: refusals::BYTES_REMAIN,
-                    element: Element::End,
-                    offset: bits,
-                }
-            } else {
-                End::Is { bits }
-            }
-        }
+    let gap = bits::read_zeros(s, at, head::zeros_behind(true, at));
+    let zeros = gap.map_err(|why| Refused::of(Element::DmAlignmentZeroBit, why))?;
+    let end = at + zeros.width;
+    if end / 8 < s.len() {
+        return Err(Refused::at(Refusal::BytesRemain, Element::End, end));
     }
+    Ok(end as u32)
 }
 
 // The answer, where the head was read and announces n blocks, which begin at `start`: each block may follow the known ones before it, with
@@ -128,48 +101,34 @@ fn read_blocks(s: &[u8], start: usize, refresh: bool, n: u8) -> Reading
 {
     let mut r = Record::without_blocks(refresh);
     let mut seen = Met::nothing();
-    let mut targets: [u16; 17] = [met::NO_TARGET; 17];
     let mut width: usize = 0;
     let mut skipped: u8 = 0;
-    let mut i: u8 = 0;
-    while i < n {
-        match block::read_block(s, start + width) {
-            Part::Refused {
-                number,
-                element,
-                offset,
-            } => {
-                return refused(s, number, element, offset);
-            }
+    for _i in 0..n {
+        let at = start + width;
+        let part = match block::read_block(s, at) {
+            Ok(part) => part,
+            Err(why) => return refused_data(s, why),
+        };
+        match part {
             Part::Passed { width: w } => {
                 skipped += 1;
                 width += w;
-                i += 1;
             }
             Part::Kept { block, width: m } => {
-                if met::admits(seen, &targets, block) {
-                    let k = seen.twos as usize;
-                    targets[k] = met::target_of(block);
-                    seen = met::including(seen, block);
-                    let j = r.count as usize;
-                    r.places[j] = Place { block };
-                    r.count = r.count + 1;
-                    width += m;
-                    i += 1;
-                } else {
-                    let number = met::repeat_of(seen, block);
-                    return refused(s, number, repeated(number), (start + width) as u32);
+                if !seen.admits(block) {
+                    let refusal = seen.repeat_of(block).unwrap();
+                    return refused_data(s, Refused::at(refusal, repeated(refusal), at));
                 }
+                seen.include(block);
+                r.places[r.count as usize] = Place { block };
+                r.count += 1;
+                width += m;
             }
         }
     }
     match read_end(s, start + width) {
-        End::Refused {
-            number,
-            element,
-            offset,
-        } => refused(s, number, element, offset),
-        End::Is { bits } => Reading {
+        Err(why) => refused_data(s, why),
+        Ok(bits) => Reading {
             result: 0,
             skipped,
             in_wrapper: false,
@@ -186,15 +145,7 @@ pub fn read_data(input: &[u8]) -> Reading
     ensures { result ≡ read_bare input.now }
 {
     match head::read_head(input) {
-        Opening::Refused {
-            number,
-            element,
-            offset,
-        } => refused(input, number, element, offset),
-        Opening::Is {
-            refresh,
-            count,
-            width,
-        } => read_blocks(input, width, refresh, count),
+        Err(why) => refused_data(input, why),
+        Ok(opening) => read_blocks(input, opening.width, opening.refresh, opening.count),
     }
 }

@@ -6,8 +6,8 @@ use mathlib.Core.Bool.{Bool, true, false, not, ◌&&◌, ◌||◌, and-eq-true_i
 use native.Mathlib.Numerals.{add-one}
 use borrow.Author.Tests.{ne_eqb, eq-eqb, eqb-true}
 use lib.Dec.{eqb}
-use lib.ListN.{length, get_or, take, drop, length-map, get_or-map}
-use lib.Seq.{take-suc, drop-cons}
+use lib.ListN.{length, get_or, take, length-map, get_or-map}
+use lib.Seq.{take-suc}
 use Rattle.record.specs.declared.Block.{Block}
 use Rattle.record.specs.declared.Block.TheVariants.{Nothing}
 use Rattle.record.specs.declared.Record.{Record}
@@ -61,6 +61,3 @@ module _ (r : Record) (j : ℕ) (h : j < length r.places) where
 
   pub take_more : take (j + 1) (all_blocks r) ≡ take j (all_blocks r) ++ (block_at r j ∷ [])
   take_more = rw (add-one j, take-suc (all_blocks r) j Nothing inside, get_or-map block_in r.places j empty_place)
-
-  pub drop_more : drop j (all_blocks r) ≡ block_at r j ∷ drop (j + 1) (all_blocks r)
-  drop_more = rw (add-one j, drop-cons (all_blocks r) j Nothing inside, get_or-map block_in r.places j empty_place)

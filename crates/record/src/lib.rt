@@ -5,8 +5,9 @@ ghost use Rattle.std.specs.Prelude.{◌≡◌, true, false, not, [], ◌∷◌, 
 ghost use Rattle.record.specs.Level.{level, known, padding, level_of};
 ghost use Rattle.record.specs.Blocks.{most_blocks, no_blocks, empty_record, in_range, in_order};
 
-// What a place holds: nothing, or a block of one of the three levels with that level's own fields, named as in A/341.
-#[derive(Clone, Copy)]
+// What a place holds: nothing, or a block of one of the three levels with that level's own fields, named as in A/341. (Not an Option: 01 has a
+// place hold an enum of nothing and the three levels. It is taken apart where each field has its own width, key or number.)
+#[derive(Clone, Copy, Debug, PartialEq, Eq)]
 pub enum Block {
     Nothing,
     Level1 {
@@ -31,12 +32,13 @@ pub enum Block {
     },
 }
 
-#[derive(Clone, Copy)]
+#[derive(Clone, Copy, Debug, PartialEq, Eq)]
 pub struct Place {
     pub block: Block,
 }
 
-#[derive(Clone, Copy)]
+// (01: the refresh flag, a block count and 18 places, of which exactly the first count hold a block. Every number is a record, valid or not.)
+#[derive(Clone, Copy, Debug, PartialEq, Eq)]
 pub struct Record {
     pub refresh: bool,
     pub count: u8,
@@ -83,61 +85,52 @@ pub fn level_of(b: Block) -> u8
     }
 }
 
+// A level stays the number that the payload holds, here and below: each of these says something of every number, reserved levels among them.
 pub fn is_known(l: u8) -> bool
     ensures { result ≡ known l }
 {
-    (l == 1) | (l == 2) | (l == 5)
+    matches!(l, 1 | 2 | 5)
 }
 
 // A level's ext_block_length.
 pub fn bytes_of(l: u8) -> u8
     ensures { result ≡ (level l).bytes }
 {
-    if l == 1 {
-        return 5;
+    match l {
+        1 => 5,
+        2 => 11,
+        5 => 7,
+        _ => 0,
     }
-    if l == 2 {
-        return 11;
-    }
-    if l == 5 {
-        return 7;
-    }
-    0
 }
 
 // A level's zero bits behind its fields.
+#[tactic(auto, unfolding(tree::specs::Coding::total_width))]
 pub fn padding_of(l: u8) -> u8
     ensures { result ≡ padding l }
 {
-    if l == 1 {
-        return 4;
+    match l {
+        1 => 4,
+        2 => 3,
+        5 => 4,
+        _ => 0,
     }
-    if l == 2 {
-        return 3;
-    }
-    if l == 5 {
-        return 4;
-    }
-    0
 }
 
 // How many blocks of a level a record may hold.
 pub fn most_of(l: u8) -> u8
     ensures { result ≡ (level l).most }
 {
-    if l == 1 {
-        return 1;
+    match l {
+        1 => 1,
+        2 => 16,
+        5 => 1,
+        _ => 0,
     }
-    if l == 2 {
-        return 16;
-    }
-    if l == 5 {
-        return 1;
-    }
-    0
 }
 
 // Every field holds a number that its width holds.
+#[tactic(auto, unfolding(tree::specs::Coding::hold_all))]
 pub fn in_range(b: Block) -> bool
     ensures { result ≡ in_range b }
 {
@@ -185,14 +178,12 @@ pub fn in_order(b: Block) -> bool
     ensures { result ≡ in_order b }
 {
     match b {
-        Block::Nothing => true,
         Block::Level1 {
             min_pq,
             max_pq,
             avg_pq,
         } => (min_pq <= avg_pq) & (avg_pq <= max_pq),
-        Block::Level2 { .. } => true,
-        Block::Level5 { .. } => true,
+        _ => true,
     }
 }
 

@@ -1,47 +1,43 @@
-// The refusal numbers of document 01 and of the requests after it, each named once. Nothing here knows a syntax.
+// Why something is refused, each refusal named once, with its number in document 01 and in the requests after it. Nothing here knows a
+// syntax.
 #![tactic(auto)]
 
-pub const PAST_END: u8 = 1;
+ghost use Rattle.std.specs.Prelude.{◌≡◌};
 
-pub const TOO_MANY_ZEROS: u8 = 2;
+// Each stands with its number. 8, a level other than 1, 2 and 5, no longer occurs: such blocks are passed over.
+#[derive(Clone, Copy, Debug, PartialEq, Eq, Hash)]
+pub enum Refusal {
+    PastEnd = 1,
+    TooManyZeros = 2,
+    WrapperDiffers = 3,
+    WrongIdentifier = 4,
+    WrongVersion = 5,
+    TooManyBlocks = 6,
+    NotZero = 7,
+    WrongLength = 9,
+    NotInOrder = 10,
+    RepeatedTarget = 11,
+    BytesRemain = 12,
+    UnfitOutput = 13,
+    NotValid = 14,
+    TooManyPoints = 15,
+    NotATrack = 16,
+    SecondLevel1 = 17,
+    SecondLevel5 = 18,
+    SeventeenthLevel2 = 19,
+    WrongUnit = 30,
+    StartCodeInside = 31,
+    BrokenMessages = 32,
+    NoneOfOurs = 33,
+}
 
-pub const WRAPPER_DIFFERS: u8 = 3;
+impl Refusal {
+    ghost use Rattle.refusals.specs.Numbered.{number_of};
 
-pub const WRONG_IDENTIFIER: u8 = 4;
-
-pub const WRONG_VERSION: u8 = 5;
-
-pub const TOO_MANY_BLOCKS: u8 = 6;
-
-pub const NOT_ZERO: u8 = 7;
-
-// 8, a level other than 1, 2 and 5, no longer occurs: such blocks are passed over.
-pub const WRONG_LENGTH: u8 = 9;
-
-pub const NOT_IN_ORDER: u8 = 10;
-
-pub const REPEATED_TARGET: u8 = 11;
-
-pub const BYTES_REMAIN: u8 = 12;
-
-pub const UNFIT_OUTPUT: u8 = 13;
-
-pub const NOT_VALID: u8 = 14;
-
-pub const TOO_MANY_POINTS: u8 = 15;
-
-pub const NOT_A_TRACK: u8 = 16;
-
-pub const SECOND_LEVEL_1: u8 = 17;
-
-pub const SECOND_LEVEL_5: u8 = 18;
-
-pub const SEVENTEENTH_LEVEL_2: u8 = 19;
-
-pub const WRONG_UNIT: u8 = 30;
-
-pub const START_CODE_INSIDE: u8 = 31;
-
-pub const BROKEN_MESSAGES: u8 = 32;
-
-pub const NONE_OF_OURS: u8 = 33;
+    // By which it is answered: 0 stands for none.
+    pub fn number(self) -> u8
+        ensures { result ≡ number_of self }
+    {
+        self as u8
+    }
+}

@@ -1,6 +1,9 @@
 -- An SEI unit whole (02, a): a header, then the one escaping of messages and the trailing byte. What reading and writing one answer.
-use Rattle.std.specs.Prelude.{ℕ, Bool, cond, List, [], ◌∷◌, ◌++◌, drop}
+use Rattle.std.specs.Prelude.{ℕ, Bool, cond, List, [], ◌∷◌, ◌++◌, drop, Result, Ok, Err}
+use Rattle.std.specs.Borrow.{Bor}
 use Rattle.refusals.specs.Refusals.{wrong_unit, start_code_inside}
+use Rattle.refusals.specs.declared.Refusal.{Refusal}
+use Rattle.refusals.specs.declared.Refusal.TheVariants.{WrongUnit, StartCodeInside}
 use Rattle.output.specs.declared.Written.{Written}
 use Rattle.output.specs.Output.{written_as, buffer_as}
 use Rattle.record.specs.declared.Record.{Record}
@@ -22,6 +25,15 @@ read_body start_code u = cond start_code (unplaced start_code_inside) (read_mess
 
 abbrev pub read_unit : List ℕ → Reading
 read_unit u = cond (admitted u) (read_body (forbidden u) u) (unplaced wrong_unit)
+
+-- 30 and 31 on the way to it: what is behind the header, where neither refuses
+abbrev pub checked : List ℕ → Result (List ℕ) Refusal
+checked u = cond (admitted u) (cond (forbidden u) (Err StartCodeInside) (Ok (drop 2 u))) (Err WrongUnit)
+
+-- what the code gives of it, with the bytes for the slice of them
+abbrev pub behind_header : Result (Bor (List ℕ)) Refusal → Result (List ℕ) Refusal
+behind_header (Ok s) = Ok s.now
+behind_header (Err r) = Err r
 
 -- the header that we write: type 39, layer 0, temporal id plus one of 1
 abbrev pub our_header : List ℕ

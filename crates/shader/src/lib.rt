@@ -1,23 +1,20 @@
 // The numbers that the shader gets for a level 2 block: each exactly its code divided by 4,096.
 #![tactic(auto)]
 
-ghost use Rattle.std.specs.Prelude.{◌≡◌, true, map, ◌<◌, pos, replicate};
+ghost use Rattle.std.specs.Prelude.{◌≡◌, true, false, map, ◌<◌, ℤ, IfOk, IfErr};
 ghost use Rattle.std.specs.Int.Signed.{mag};
 ghost use Rattle.std.specs.Float.{binary32};
-ghost use Rattle.std.specs.Float.Ieee.{to_bits};
-ghost use Rattle.record.specs.declared.Block.TheVariants.{Level2};
+ghost use Rattle.std.specs.Float.Ieee.{to_bits, of_int};
+ghost use Rattle.refusals.specs.declared.Refusal.TheVariants.{NotValid};
 ghost use Rattle.record.specs.Level.{values_of};
-ghost use Rattle.record.specs.Blocks.{in_range};
 ghost use Rattle.singles.specs.Singles.{single_bits};
-ghost use Rattle.shader.specs.Shader.{conversion_result, conversion_bits, bits_in};
+ghost use Rattle.shader.specs.Shader.{convertible, conversion_result, conversion_bits, bits_in};
 
 use record::Block;
-
-// 01, Refusal numbers.
-const NOT_CONVERTIBLE: u8 = refusals::NOT_VALID;
+use refusals::Refusal;
 
 // The seven numbers, in the order of the block's fields.
-#[derive(Clone, Copy)]
+#[derive(Clone, Copy, Default)]
 pub struct Numbers {
     pub target_max_pq: f32,
     pub trim_slope: f32,
@@ -28,80 +25,27 @@ pub struct Numbers {
     pub ms_weight: f32,
 }
 
-// 0 or the number of the refusal, and the numbers.
+// 0 or the number of the refusal, and the numbers. (01: the seven fields are returned by value with the conversion answer, and on a refusal are
+// seven plus zeros.)
 #[derive(Clone, Copy)]
 pub struct Shader {
     pub result: u8,
     pub numbers: Numbers,
 }
 
-// A code of 12 bits. The division by a power of two is exact.
-fn single(code: u16) -> f32
-    requires { code < 4096 }
-    ensures { to_bits binary32 result ≡ single_bits (pos code) }
+// A code as a float, divided by 4,096. The division by a power of two is exact at each code of 12 bits, and of 13 with its sign.
+fn single(code: f32) -> f32
+    ensures { (z : ℤ) → mag z < 4096 → code ≡ of_int binary32 z → to_bits binary32 result ≡ single_bits z }
 {
-    code as f32 / 4096.0
+    code / 4096.0
 }
 
-// A code of 13 bits with its sign.
-fn single_signed(weight: i16) -> f32
-    requires { mag weight < 4096 }
-    ensures { to_bits binary32 result ≡ single_bits weight }
-{
-    weight as f32 / 4096.0
-}
-
-// Seven plus zeros.
-fn refused() -> Shader
-    ensures { (result.result ≡ 14) × (bits_in result.numbers ≡ replicate 7 0) }
-{
-    Shader {
-        result: NOT_CONVERTIBLE,
-        numbers: Numbers {
-            target_max_pq: 0.0,
-            trim_slope: 0.0,
-            trim_offset: 0.0,
-            trim_power: 0.0,
-            trim_chroma_weight: 0.0,
-            trim_saturation_gain: 0.0,
-            ms_weight: 0.0,
-        },
-    }
-}
-
-fn converted(
-    target: u16,
-    slope: u16,
-    offset: u16,
-    power: u16,
-    chroma: u16,
-    gain: u16,
-    weight: i16,
-) -> Shader
-    requires { in_range (Level2 target slope offset power chroma gain weight) ≡ true }
-    ensures { (result.result ≡ 0) × (bits_in result.numbers ≡ map single_bits (values_of (Level2 target slope offset power chroma gain weight))) }
-{
-    Shader {
-        result: 0,
-        numbers: Numbers {
-            target_max_pq: single(target),
-            trim_slope: single(slope),
-            trim_offset: single(offset),
-            trim_power: single(power),
-            trim_chroma_weight: single(chroma),
-            trim_saturation_gain: single(gain),
-            ms_weight: single_signed(weight),
-        },
-    }
-}
-
-// The numbers of a block: any block gets an answer.
-pub fn shader_numbers(block: Block) -> Shader
-    ensures { (result.result ≡ conversion_result block) × (bits_in result.numbers ≡ conversion_bits block) }
+// The numbers of a level 2 block in range; any other block has none.
+fn numbers_of(block: Block) -> Result<Numbers, Refusal>
+    ensures accepted { IfOk result (λ n. (convertible block ≡ true) × (bits_in n ≡ map single_bits (values_of block))) }
+    ensures refused { IfErr result (λ e. (convertible block ≡ false) × (e ≡ NotValid)) }
 {
     match block {
-        Block::Nothing => refused(),
-        Block::Level1 { .. } => refused(),
         Block::Level2 {
             target_max_pq,
             trim_slope,
@@ -110,21 +54,28 @@ pub fn shader_numbers(block: Block) -> Shader
             trim_chroma_weight,
             trim_saturation_gain,
             ms_weight,
-        } => {
-            if record::in_range(block) {
-                converted(
-                    target_max_pq,
-                    trim_slope,
-                    trim_offset,
-                    trim_power,
-                    trim_chroma_weight,
-                    trim_saturation_gain,
-                    ms_weight,
-                )
-            } else {
-                refused()
-            }
-        }
-        Block::Level5 { .. } => refused(),
+        } if record::in_range(block) => Ok(Numbers {
+            target_max_pq: single(f32::from(target_max_pq)),
+            trim_slope: single(f32::from(trim_slope)),
+            trim_offset: single(f32::from(trim_offset)),
+            trim_power: single(f32::from(trim_power)),
+            trim_chroma_weight: single(f32::from(trim_chroma_weight)),
+            trim_saturation_gain: single(f32::from(trim_saturation_gain)),
+            ms_weight: single(f32::from(ms_weight)),
+        }),
+        _ => Err(Refusal::NotValid),
+    }
+}
+
+// The numbers of a block: any block gets an answer.
+pub fn shader_numbers(block: Block) -> Shader
+    ensures { (result.result ≡ conversion_result block) × (bits_in result.numbers ≡ conversion_bits block) }
+{
+    match numbers_of(block) {
+        Ok(numbers) => Shader { result: 0, numbers },
+        Err(refusal) => Shader {
+            result: refusal.number(),
+            numbers: Numbers::default(),
+        },
     }
 }

@@ -11,3 +11,5 @@ pub mod Stands
 pub mod Numbers
 pub mod Wrapped
 pub mod Steps
+pub mod Told
+pub mod Near

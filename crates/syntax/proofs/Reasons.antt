@@ -43,7 +43,7 @@ grow_about es earlier theirs r (surplus at b opening is e f) = surplus at b (es 
 grow_about es earlier theirs r (target at t s o p c g m opening is e f h) =
     target at t s o p c g m (es ++ opening) is (ap (λ (l : List (Element Name)). es ++ l) e ∙ sym (append_assoc es opening (items_elements is))) f h
 
-grow : (at : ℕ) (es fs : List (Element Name)) (r : Rule Name) → Speaks (at + sum_of_widths es) fs r → Speaks at (es ++ fs) r
+pub grow : (at : ℕ) (es fs : List (Element Name)) (r : Rule Name) → Speaks (at + sum_of_widths es) fs r → Speaks at (es ++ fs) r
 grow at es fs r k = record {
   earlier = es ++ k.earlier;
   theirs = k.theirs;
@@ -129,7 +129,7 @@ module _ {B : Type 0} (at : ℕ) (g : Unit {0} → Syntax Name B) (there : ℕ) 
   order_broken (kept (Level5 l r t b)) h on = on h
   order_broken (passed l n zs) h on = on h
 
-one_block : (at : ℕ) → BreaksAt Speaks at block
+pub one_block : (at : ℕ) → BreaksAt Speaks at block
 unfolding block Follow ◌>>=◌
 one_block at =
     breaks_behind Speaks at (whole_block at) (λ i. order_rules at i >>= λ o. done i) (whole_block_lem at)
@@ -229,7 +229,7 @@ the_count =
     breaks_then Speaks grow (ranged num_ext_blocks variable too_many_blocks (pos 0) (pos most_announced)) (λ n. done (announced true (natural n)))
     (breaks_ranged Speaks num_ext_blocks variable too_many_blocks (pos 0) (pos most_announced) (λ at z. begins at _ _ refl (count at z))) (λ n. breaks_done Speaks (announced true (natural n)))
 
-the_head : Breaks Speaks head
+pub the_head : Breaks Speaks head
 unfolding head
 the_head =
     breaks_then Speaks grow (ranged app_identifier variable wrong_identifier (pos 1) (pos 1)) after_identifier
@@ -239,7 +239,7 @@ the_head =
     (λ v. breaks_then Speaks grow (any metadata_refresh_flag (fixed (unsigned 1))) after_flag (breaks_any Speaks metadata_refresh_flag (fixed (unsigned 1)))
     (λ f. breaks_if Speaks (eqb (natural f) 1) block_count (done (announced false 0)) the_count (breaks_done Speaks (announced false 0)))))
 
-the_alignment : Breaks Speaks (alignment dm_alignment_zero_bit)
+pub the_alignment : Breaks Speaks (alignment dm_alignment_zero_bit)
 the_alignment = breaks_alignment Speaks grow dm_alignment_zero_bit (λ at z. begins at _ _ refl (alignment_bit at z))
 
 -- a rule of the tables that is broken is about elements that were read

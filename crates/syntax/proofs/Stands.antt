@@ -69,7 +69,7 @@ rule_number : (at : ℕ) (es : List (Element Name)) (r : Rule Name) (n : ℕ) �
 rule_number at es r n k e = rw e at (listed k.earlier k.theirs r k.about)
 
 -- what a broken rule rests on: elements that break one of the table, or bytes that are left over
-abbrev BrokenBy : List (Element Name) → List Bool → Rule Name → Type 0
+abbrev pub BrokenBy : List (Element Name) → List Bool → Rule Name → Type 0
 BrokenBy es t q = (Follow ST2094-10_data 0 es (broken q) × Speaks 0 es q) ⊎ ((a : Data) × Follow ST2094-10_data 0 es (complete a) × (q ≡ left_over «end» (sum_of_widths es) t))
 
 -- so a number that none of these has, and that is not 12, is that of no broken rule

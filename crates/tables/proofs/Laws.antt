@@ -2,19 +2,22 @@
 use Prim.Native.Nat.{ℕ, zero, suc, ◌+◌, ◌-◌, ◌*◌, ◌^◌, ◌<◌, ◌≤◌}
 use mathlib.Core.Path.{◌≡◌, refl, sym, ap, ◌∙◌}
 use mathlib.Core.Bool.{Bool, true, false, cond}
-use mathlib.Core.List.{List, [], ◌∷◌, ◌++◌, map, append-nil}
+use mathlib.Core.List.{List, [], ◌∷◌, ◌++◌, map}
 use native.Mathlib.Omega.{arith}
 use borrow.Author.Tests.{ltb-true, ltb-false, eq-eqb, ne_eqb}
 use lib.Dec.{eqb, ltb}
 use lib.IntN.{ℤ, pos, negsuc}
-use lib.ListN.{length, take, drop, get_or, set, replicate, length-map, get_or-map, drop_of_length-le, length-replicate, get_or-replicate, replicate-append-replicate}
+use lib.ListN.{length, take, drop, get_or, set, replicate, length-map, get_or-map, length-replicate, replicate-append-replicate}
 use lib.Seq.{paste, paste-zero, paste-suc, take_all, drop_at}
 use mir.Syntax.{w32}
 use mir.Val.{of_z, SFits}
+use Rattle.std.proofs.lemmas.List.{get_or_default}
+use Rattle.std.specs.Prelude.{Option, Some, None}
 use Rattle.record.specs.Blocks.{most_blocks}
-use Rattle.plan.specs.declared.Sought.{Sought}
+use Rattle.plan.specs.declared.entry.Entry.{Entry}
+use Rattle.plan.specs.declared.Source.{Source}
+use Rattle.plan.specs.declared.Source.TheVariants.{First, Second, Neither}
 use Rattle.plan.specs.Limit.{most_points}
-use Rattle.plan.specs.Planning.{neither}
 use Rattle.track.specs.declared.Point.{Point}
 use Rattle.track.specs.Track.{cleared, padded}
 use Rattle.track.specs.Inner.{unfilled, point_at, chosen_of}
@@ -41,13 +44,6 @@ pub length_zeros : (n : ℕ) → length (zero_row n) ≡ n
 unfolding zero_row
 length_zeros n = length-replicate n (pos 0)
 
-pub zeros_at : (n i : ℕ) → i < n → get_or (zero_row n) i (pos 0) ≡ pos 0
-unfolding zero_row
-zeros_at n i h = get_or-replicate n i (pos 0) (pos 0) h
-
-pub all_zeros_lem : (d : List ℤ) (n : ℕ) → length d ≡ n → take n (zero_row n) ++ drop n d ≡ zero_row n
-all_zeros_lem d n e = rw (take_all n (zero_row n) (omega (arith, length_zeros n)), drop_of_length-le d {i = n} (omega arith)) (append-nil (zero_row n))
-
 -- ---- a segment's number
 
 held_small : (v : ℕ) (b : Bool) → (b ≡ true → v < 2 ^ 16) → cond b v 0 < 2 ^ 16
@@ -73,9 +69,9 @@ same_held (pos v) = held_same v (ltb v (2 ^ 16)) (ltb-false v (2 ^ 16))
 same_held (negsuc v) = refl
 
 -- what the code compares: the number, and what is held of it
-pub segment_test : (z : ℤ) (n : ℕ) → SFits w32 z → n ≡ unsigned_in 16 z → eqb (of_z w32 z) n ≡ is_segment z
-segment_test z n f e =
-    same_bits z (pos n) f (record { sfits = let h = segment_small z in omega (arith, h, e) }) ∙ ap (λ (k : ℕ). same_number z (pos k)) e ∙ same_held z
+pub segment_test : (z y : ℤ) (n : ℕ) → SFits w32 z → y ≡ pos n → n ≡ unsigned_in 16 z → eqb (of_z w32 z) (of_z w32 y) ≡ is_segment z
+segment_test z y n f h e =
+    rw h (same_bits z (pos n) f (record { sfits = let k = segment_small z in omega (arith, k, e) }) ∙ ap (λ (k : ℕ). same_number z (pos k)) e ∙ same_held z)
 
 -- ---- a point
 
@@ -117,51 +113,37 @@ length-cleared : length (flat_point cleared) ≡ point_length
 unfolding cleared
 length-cleared = length_point cleared refl
 
-pub length_found : (l : List ℤ) (sought : Sought) → length (flat_point (found_in l sought)) ≡ point_length
-length_found l sought = go sought.found
-  where
-    go : (t : Bool) → length (flat_point (cond t (point_in l sought.at) cleared)) ≡ point_length
-    go true = length_named l sought.at
-    go false = length-cleared
+pub length_found : (l : List ℤ) (found : Option Entry) → length (flat_point (found_in l found)) ≡ point_length
+length_found l (Some entry) = length_named l entry.at
+length_found l None = length-cleared
 
 -- ---- the points that a layout names
 
 module _ (a b : List ℤ) where
-  abbrev pub chosen : ℕ → Point
+  abbrev pub chosen : Source → Point
   chosen source = chosen_of (table_in a) (table_in b) source
 
   length_at : (l : List ℤ) (i : ℕ) → i < most_points → length (flat_point (point_at (table_in l) i)) ≡ point_length
   length_at l i h = ap (λ (p : Point). length (flat_point p)) (table_at l i h) ∙ length_named l i
 
-  pub length_chosen : (source : ℕ) → length (flat_point (chosen source)) ≡ point_length
-  length_chosen source = go (ltb source most_points) (ltb source neither) (ltb-true source most_points) (ltb-true source neither)
-    where
-      go : (t u : Bool) → (t ≡ true → source < most_points) → (u ≡ true → source < neither)
-          → length (flat_point (cond t (point_at (table_in a) (cond t source 0)) (cond u (point_at (table_in b) (cond t 0 (cond u (source - most_points) 0))) cleared))) ≡ point_length
-      go true u f g = length_at a source (f refl)
-      go false true f g = let h = g refl in length_at b (source - most_points) (omega arith)
-      go false false f g = length-cleared
+  pub length_chosen : (source : Source) → length (flat_point (chosen source)) ≡ point_length
+  length_chosen (First entry) = length_at a entry.at entry.in_table
+  length_chosen (Second entry) = length_at b entry.at entry.in_table
+  length_chosen Neither = length-cleared
 
-  abbrev pub laid_out : List ℕ → List ℤ
+  abbrev pub laid_out : List Source → List ℤ
   laid_out sources = flat_table (map chosen sources)
 
-  even : (sources : List ℕ) → Even flat_point point_length (chosen 0) (map chosen sources)
-  even sources i h = ap (λ (p : Point). length (flat_point p)) (get_or-map chosen sources i 0) ∙ length_chosen (get_or sources i 0)
+  even : (sources : List Source) → Even flat_point point_length (chosen Neither) (map chosen sources)
+  even sources i h = ap (λ (p : Point). length (flat_point p)) (get_or-map chosen sources i Neither) ∙ length_chosen (get_or sources i Neither)
 
-  pub laid_at : (sources : List ℕ) (k : ℕ) → k < length sources → take point_length (drop (point_length * k) (laid_out sources)) ≡ flat_point (chosen (get_or sources k 0))
-  laid_at sources k h =
-      rows_at flat_point point_length (chosen 0) (map chosen sources) k (omega (arith, length-map sources chosen)) (even sources)
-      ∙ ap flat_point (get_or-map chosen sources k 0)
+  pub laid_at : (sources : List Source) (k : ℕ) (d : Source) → k < length sources → take point_length (drop (point_length * k) (laid_out sources)) ≡ flat_point (chosen (get_or sources k d))
+  laid_at sources k d h =
+      rows_at flat_point point_length (chosen Neither) (map chosen sources) k (omega (arith, length-map sources chosen)) (even sources)
+      ∙ ap flat_point (get_or-map chosen sources k Neither ∙ ap chosen (get_or_default sources k Neither d h))
 
-  pub laid_length : (sources : List ℕ) → length (laid_out sources) ≡ point_length * length sources
-  laid_length sources = length_rows flat_point point_length (chosen 0) (map chosen sources) (even sources) ∙ ap (λ (n : ℕ). point_length * n) (length-map sources chosen)
-
--- a row that is pasted whole, or not at all
-pub pasted_by : (t : Bool) (d s : List ℤ) → length d ≡ table_length → length s ≡ table_length → paste d 0 s (point_length * cond t most_points 0) ≡ cond t s d
-pasted_by true d s e f =
-    ap (λ (x : List ℤ). x ++ drop (0 + table_length) d) (take_all table_length s (omega arith))
-    ∙ ap (λ (x : List ℤ). s ++ x) (drop_of_length-le d {i = 0 + table_length} (omega arith)) ∙ append-nil s
-pasted_by false d s e f = sym (paste-zero d 0 s)
+  pub laid_length : (sources : List Source) → length (laid_out sources) ≡ point_length * length sources
+  laid_length sources = length_rows flat_point point_length (chosen Neither) (map chosen sources) (even sources) ∙ ap (λ (n : ℕ). point_length * n) (length-map sources chosen)
 
 -- ---- cleared entries
 

@@ -1,12 +1,12 @@
 -- A table of points as a row of numbers, for callers that have no Point.
-use Rattle.std.specs.Prelude.{ℕ, ◌+◌, ◌*◌, Bool, cond, List, ◌∷◌, map, eqb, ℤ, pos, take, drop, replicate}
+use Rattle.std.specs.Prelude.{ℕ, ◌+◌, ◌*◌, Bool, Option, Some, None, List, ◌∷◌, ℤ, pos, take, drop, replicate}
 use Rattle.tree.specs.Coding.{unsigned, holds}
 use Rattle.plan.specs.declared.Layout.{Layout}
-use Rattle.plan.specs.declared.Sought.{Sought}
+use Rattle.plan.specs.declared.entry.Entry.{Entry}
 use Rattle.plan.specs.Limit.{most_points}
 use Rattle.track.specs.declared.Point.{Point}
 use Rattle.track.specs.Track.{point_with, cleared}
-use Rattle.track.specs.Inner.{chosen_of}
+use Rattle.track.specs.Inner.{filled_by}
 use Rattle.flat.specs.Flat.{flat_length, rows_of, flat, number_at, unsigned_in, record_beside, each}
 
 -- a point is its picture, its segment, then its record's numbers
@@ -44,9 +44,10 @@ unfoldable pub table_in : List ℤ → List Point
 table_in l = each (point_in l) most_points
 
 -- the point that a search has found, or a cleared one where it has found none
-abbrev pub found_in : List ℤ → Sought → Point
-found_in l sought = cond sought.found (point_in l sought.at) cleared
+abbrev pub found_in : List ℤ → Option Entry → Point
+found_in l (Some entry) = point_in l entry.at
+found_in l None = cleared
 
--- the numbers of a table that a layout has filled; none changes where it is a refusal
-abbrev pub filled_as : List ℤ → List ℤ → List ℤ → Layout → List ℤ
-filled_as table a b l = cond (eqb l.result 0) (flat_table (map (chosen_of (table_in a) (table_in b)) l.sources)) table
+-- the numbers of a table that a layout has filled
+abbrev pub filled_as : List ℤ → List ℤ → Layout → List ℤ
+filled_as a b l = flat_table (filled_by (table_in a) (table_in b) l)

@@ -1,15 +1,17 @@
 -- Laws of plain decimal: how many digits a number has, and digit by digit.
 use Prim.Native.Nat.{ℕ, zero, suc, ◌+◌, ◌-◌, ◌*◌, ◌/◌, ◌%◌, ◌^◌, ◌<◌, ◌≤◌}
 use mathlib.Core.Path.{◌≡◌, refl, ap, sym, ◌∙◌}
-use mathlib.Core.List.{List, [], ◌∷◌, ◌++◌}
+use mathlib.Core.List.{List, [], ◌∷◌, ◌++◌, append_assoc}
 use mathlib.Core.Bool.{Bool, true, false, cond}
 use native.Mathlib.Omega.{arith}
 use native.Mathlib.Numerals.{add-one}
 use native.Mathlib.Nat.{pow-succ', add_comm}
+use Rattle.std.specs.Prelude.{max}
+use Rattle.std.proofs.Math.Nat.{pow-le-pow_right}
+use Rattle.std.proofs.lemmas.List.{drop-set}
 use borrow.Author.Tests.{lt-ltb, le-ltb, ltb-true, ltb-false}
 use lib.Dec.{ltb}
-use lib.ListN.{length, get_or, take, drop, length-append}
-use lib.Seq.{take_at, get_or_at, take-take, get_or-take, drop-cons}
+use lib.ListN.{length, drop, set, length-append}
 use Rattle.text.specs.Text.{size_within, size, digits, decimal}
 
 -- a bound that is large enough does not matter
@@ -41,24 +43,6 @@ length_digits (suc k) n = omega (arith, length-append (digits k (n / 10)) ((48 +
 
 pub length-decimal : (n : ℕ) → length (decimal n) ≡ size n
 length-decimal n = length_digits (size n) n
-
--- where the first digits of D are those of `rest`, its last one is the digit before the others of D
-module _ (i rest : ℕ) (D : List ℕ) (inside : i < length D) (h : digits (i + 1) rest ≡ take (i + 1) D) where
-  before : digits i (rest / 10) ++ ((48 + rest % 10) ∷ []) ≡ take (suc i) D
-  unfolding digits
-  before = rw (add-one i) at h
-
-  pub earlier_digits : digits i (rest / 10) ≡ take i D
-  earlier_digits =
-      sym (take_at (digits i (rest / 10)) ((48 + rest % 10) ∷ []) i (length_digits i (rest / 10)))
-      ∙ ap (λ (l : List ℕ). take i l) before ∙ take-take i (suc i) D (omega arith)
-
-  pub next_digit : (48 + rest % 10) ∷ drop (i + 1) D ≡ drop i D
-  next_digit =
-      let g : get_or D i 0 ≡ 48 + rest % 10 =
-      sym (get_or-take (suc i) D i 0 (omega arith)) ∙ ap (λ (l : List ℕ). get_or l i 0) (sym before)
-      ∙ get_or_at (digits i (rest / 10)) (48 + rest % 10) [] 0 i (length_digits i (rest / 10)) in
-      rw (add-one i, drop-cons D i 0 inside, g)
 
 -- a number below 10 ^ k has at most k digits, and every number has one
 pub few_digits : (k n : ℕ) → n < 10 ^ (k + 1) → size n ≤ k + 1
@@ -103,3 +87,29 @@ no_more_digits m n h =
     let p : 10 ^ (size n - 1 + 1) ≡ 10 ^ size n = ap (λ (i : ℕ). 10 ^ i) k in
     let f = few_digits (size n - 1) m (omega (arith, below_ten_to_size n)) in
     omega (arith, length-decimal m)
+
+-- the power of ten that n reaches, where n is below its tenfold, tells how many digits n has
+size_by_power : (k n : ℕ) → 10 ^ k ≤ n → n < 10 * 10 ^ k → size n ≡ k + 1
+size_by_power k n h g =
+    let p : 10 ^ (k + 1) ≡ 10 * 10 ^ k = ap (λ (m : ℕ). 10 ^ m) (add-one k) ∙ pow-succ' 10 k in
+    omega (arith, few_digits k n (omega (arith, g, p)), go (ltb k (size n)) refl)
+  where
+    go : (t : Bool) → ltb k (size n) ≡ t → k < size n
+    go true e = ltb-true k (size n) e
+    go false e = let m = pow-le-pow_right {n = 10} (omega arith) (ltb-false k (size n) e) in absurd (omega (arith, m, h, below_ten_to_size n))
+
+-- 0 has as many as 1
+pub size_by_log : (k n : ℕ) → 10 ^ k ≤ max n 1 → max n 1 < 10 * 10 ^ k → size n ≡ k + 1
+unfolding size_within
+size_by_log k zero h g = size_by_power k 1 h g
+size_by_log k (suc n) h g =
+    let e : max (suc n) 1 ≡ suc n = omega arith in
+    size_by_power k (suc n) (rw e at h) (rw e at g)
+
+-- the digit that is stored before those that stand is the last one of the rest
+pub digit_stored : (i rest : ℕ) (place : List ℕ) → i < length place
+    → digits i (rest / 10) ++ drop i (set place i (48 + rest % 10)) ≡ digits (i + 1) rest ++ drop (i + 1) place
+unfolding digits
+digit_stored i rest place h =
+    rw (drop-set place i (48 + rest % 10) h) (sym (append_assoc (digits i (rest / 10)) ((48 + rest % 10) ∷ []) (drop (i + 1) place)))
+    ∙ ap (λ (m : ℕ). digits m rest ++ drop (i + 1) place) (sym (add-one i))

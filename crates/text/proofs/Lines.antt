@@ -1,12 +1,13 @@
 -- Laws of lines typed one behind another.
-use Prim.Native.Nat.{ℕ, ◌+◌}
+use Prim.Native.Nat.{◌+◌}
 use mathlib.Core.Path.{◌≡◌, refl, ap, sym, ◌∙◌}
 use mathlib.Core.List.{List, [], ◌∷◌, ◌++◌, append_assoc, append-nil}
 use native.Mathlib.Omega.{arith}
 use lib.ListN.{length, length-append}
 use Rattle.text.specs.Text.{ascii, numeral, Line, line_text, text}
-use Rattle.text.specs.Typing.{RoomForText, Typed}
-use Rattle.text.proofs.Typing.{typed_nothing, typed_then, room_left, room_first}
+use Rattle.text.specs.declared.Page.{Page}
+use Rattle.text.specs.Page.{TypedOn}
+use Rattle.text.proofs.Typing.{typed_on_nothing, typed_on_then}
 
 pub text-append : (ls ms : List Line) → text (ls ++ ms) ≡ text ls ++ text ms
 unfolding text
@@ -29,40 +30,21 @@ length-line l ls =
     )
 
 -- no line
-pub typed_none : (out : List ℕ) (at : ℕ) → Typed out at (text []) out at
+pub typed_none : (p : Page) → TypedOn p (text []) p
 unfolding text
-typed_none out at = typed_nothing out at
+typed_none p = typed_on_nothing p
 
 -- one line before others
-module _ (l : Line) (ls : List Line) where
-  pub room_one : (out : List ℕ) (at : ℕ) → RoomForText out at (text (l ∷ ls)) → RoomForText out at (line_text l)
-  unfolding text
-  room_one out at h = room_first at (length out) (line_text l) (text ls) h
-
-  pub after_one : {o₀ o₁ : List ℕ} {p₀ p₁ : ℕ} → Typed o₀ p₀ (line_text l) o₁ p₁ → RoomForText o₀ p₀ (text (l ∷ ls)) → RoomForText o₁ p₁ (text ls)
-  unfolding text
-  after_one t h = room_left t (text ls) h
-
-  pub typed_one : {o₀ o₁ o₂ : List ℕ} {p₀ p₁ p₂ : ℕ} → Typed o₀ p₀ (line_text l) o₁ p₁ → Typed o₁ p₁ (text ls) o₂ p₂ → Typed o₀ p₀ (text (l ∷ ls)) o₂ p₂
-  unfolding text
-  typed_one t u = typed_then t u
+pub typed_one : (l : Line) (ls : List Line) {p q r : Page} → TypedOn p (line_text l) q → TypedOn q (text ls) r → TypedOn p (text (l ∷ ls)) r
+unfolding text
+typed_one l ls a b = typed_on_then a b
 
 -- a line that is the last one
-pub typed_last : (l : Line) {o₀ o₁ : List ℕ} {p₀ p₁ : ℕ} → Typed o₀ p₀ (line_text l) o₁ p₁ → Typed o₀ p₀ (text (l ∷ [])) o₁ p₁
+pub typed_last : (l : Line) {p q : Page} → TypedOn p (line_text l) q → TypedOn p (text (l ∷ [])) q
 unfolding text
-typed_last l t = rw (append-nil (line_text l)) t
+typed_last l a = rw (append-nil (line_text l)) a
 
 -- two lines before others
-module _ (l m : Line) (ls : List Line) where
-  two : text (l ∷ m ∷ ls) ≡ (line_text l ++ line_text m) ++ text ls
-  unfolding text
-  two = sym (append_assoc (line_text l) (line_text m) (text ls))
-
-  pub room_two : (out : List ℕ) (at : ℕ) → RoomForText out at (text (l ∷ m ∷ ls)) → RoomForText out at (line_text l ++ line_text m)
-  room_two out at h = room_first at (length out) (line_text l ++ line_text m) (text ls) (rw two at h)
-
-  pub after_two : {o₀ o₁ : List ℕ} {p₀ p₁ : ℕ} → Typed o₀ p₀ (line_text l ++ line_text m) o₁ p₁ → RoomForText o₀ p₀ (text (l ∷ m ∷ ls)) → RoomForText o₁ p₁ (text ls)
-  after_two t h = room_left t (text ls) (rw two at h)
-
-  pub typed_two : {o₀ o₁ o₂ : List ℕ} {p₀ p₁ p₂ : ℕ} → Typed o₀ p₀ (line_text l ++ line_text m) o₁ p₁ → Typed o₁ p₁ (text ls) o₂ p₂ → Typed o₀ p₀ (text (l ∷ m ∷ ls)) o₂ p₂
-  typed_two t u = rw two (typed_then t u)
+pub typed_two : (l m : Line) (ls : List Line) {p q r : Page} → TypedOn p (line_text l ++ line_text m) q → TypedOn q (text ls) r → TypedOn p (text (l ∷ m ∷ ls)) r
+unfolding text
+typed_two l m ls a b = rw (← append_assoc (line_text l) (line_text m) (text ls)) (typed_on_then a b)

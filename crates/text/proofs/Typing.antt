@@ -1,13 +1,15 @@
 -- Laws of text typed into a buffer: a whole text, and one text behind another.
-use Prim.Native.Nat.{ℕ, suc, ◌+◌, ◌-◌, ◌<◌, ◌≤◌}
+use Prim.Native.Nat.{ℕ, ◌+◌, ◌≤◌}
 use mathlib.Core.Path.{◌≡◌, refl, ap, sym, ◌∙◌}
-use mathlib.Core.List.{List, [], ◌∷◌, ◌++◌, append_assoc, append-nil}
+use mathlib.Core.List.{List, [], ◌++◌, append_assoc, append-nil}
 use native.Mathlib.Omega.{arith}
 use native.Mathlib.Nat.{add-zero}
-use lib.ListN.{length, take, drop, set, length-append, length-drop, take-append-drop}
-use lib.Seq.{take-length, take_all, drop-length, drop-drop, set_comm, paste, take-paste, drop-paste, length-paste, sets, sets-eq}
+use lib.ListN.{length, take, drop, length-append, take-append-drop}
+use lib.Seq.{take-length, drop-drop, paste, take-paste, drop-paste, length-paste}
 use Rattle.tree.proofs.Lists.{later_on}
 use Rattle.text.specs.Typing.{Typed}
+use Rattle.text.specs.Page.{HasRoom, TypedOn}
+use Rattle.text.specs.declared.Page.{Page}
 
 -- nothing
 pub typed_nothing : (out : List ℕ) (at : ℕ) → Typed out at [] out at
@@ -22,30 +24,10 @@ typed_paste out s at h = record {
   place = refl;
 }
 
--- a text that was copied into the part of the buffer from place at on
-pub typed_copy : (out s : List ℕ) (at : ℕ) → at + length s ≤ length out
-    → Typed out at s (take at out ++ ((take (length s) s ++ drop (length s) (take (length out - at) (drop at out))) ++ drop (length out - at) (drop at out))) (at + length s)
-typed_copy out s at h =
-    let n = length s in
-    let part : take (length out - at) (drop at out) ≡ drop at out = take_all (length out - at) (drop at out) (omega (arith, length-drop at out)) in
-    let k : at + (length out - at) ≡ length out = omega arith in
-    let none : drop (length out - at) (drop at out) ≡ [] = drop-drop (length out - at) at out ∙ rw k (drop-length out) in
-    rw (part, none, append-nil (take n s ++ drop n (drop at out)), drop-drop n at out, ← append_assoc (take at out) (take n s) (drop (at + n) out)) (typed_paste out s at h)
-
 -- a text that was copied into the part of the buffer that is as long, from place at on
 pub typed_mid : (out s : List ℕ) (at : ℕ) → at + length s ≤ length out → Typed out at s (take at out ++ (s ++ drop (length s) (drop at out))) (at + length s)
 typed_mid out s at h =
     rw (drop-drop (length s) at out, ← append_assoc (take at out) s (drop (at + length s) out), ← ap (λ (t : List ℕ). take at out ++ t ++ drop (at + length s) out) (take-length s)) (typed_paste out s at h)
-
--- a text that was stored byte by byte
-pub typed_sets : (out s : List ℕ) (at : ℕ) → at + length s ≤ length out → Typed out at s (sets out at s) (at + length s)
-typed_sets out s at h = rw (sets-eq s out at h, ← ap (λ (t : List ℕ). take at out ++ t ++ drop (at + length s) out) (take-length s)) (typed_paste out s at h)
-
--- a byte stored before a run of bytes
-pub set_before : (s out : List ℕ) (i j b : ℕ) → j < i → set (sets out i s) j b ≡ sets (set out j b) i s
-set_before [] out i j b h = refl
-set_before (c ∷ s) out i j b h =
-    set_before s (set out i c) (suc i) j b (omega arith) ∙ ap (λ (o : List ℕ). sets o (suc i) s) (set_comm out i j c b (λ e. omega arith))
 
 -- one text behind another
 pub typed_then : {o₀ o₁ o₂ : List ℕ} {p₀ p₁ p₂ : ℕ} {s t : List ℕ} → Typed o₀ p₀ s o₁ p₁ → Typed o₁ p₁ t o₂ p₂ → Typed o₀ p₀ (s ++ t) o₂ p₂
@@ -63,14 +45,22 @@ room_left {s = s} p t h = omega (arith, p.place, p.same, length-append s t)
 pub room_first : (p n : ℕ) (s t : List ℕ) → p + length (s ++ t) ≤ n → p + length s ≤ n
 room_first p n s t h = omega (arith, h, length-append s t)
 
--- a text typed from the start
-pub typed_whole : {out s out' : List ℕ} {p : ℕ} → Typed out 0 s out' p → (take p out' ≡ s) × (p ≡ length s) × (out' ≡ s ++ drop (length s) out)
-typed_whole {out} {s} {out'} {p} t =
-    let e : p ≡ length s = omega (arith, t.place) in
-    (t.up_to, e, sym (take-append-drop p out') ∙ rw (t.up_to, t.later, e))
-
 -- what was typed determines the buffer, and the place behind it
 pub one_typing : {out s o₁ o₂ : List ℕ} {at p₁ p₂ : ℕ} → Typed out at s o₁ p₁ → Typed out at s o₂ p₂ → (p₁ ≡ p₂) × (o₁ ≡ o₂)
 one_typing {out} {o₁ = o₁} {o₂} {p₁ = p₁} {p₂} t u =
     let e : p₁ ≡ p₂ = t.place ∙ sym u.place in
     (e, sym (take-append-drop p₁ o₁) ∙ rw (t.up_to, t.later, e, ← u.up_to, ← u.later) (take-append-drop p₂ o₂))
+
+-- ---- on a page
+
+-- one text behind another
+pub typed_on_then : {p q r : Page} {s t : List ℕ} → TypedOn p s q → TypedOn q t r → TypedOn p (s ++ t) r
+typed_on_then a b = record { typed = typed_then a.typed b.typed; same = b.same ∙ a.same }
+
+-- nothing
+pub typed_on_nothing : (p : Page) → TypedOn p [] p
+typed_on_nothing p = record { typed = typed_nothing p.out.now p.at; same = refl }
+
+-- room for what follows is left
+pub room_after : {p q : Page} {s : List ℕ} → TypedOn p s q → (t : List ℕ) → HasRoom p (s ++ t) → HasRoom q t
+room_after a t h = room_left a.typed t h

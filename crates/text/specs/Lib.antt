@@ -1,3 +1,4 @@
 pub mod Text
 pub mod Typing
+pub mod Page
 pub mod Told

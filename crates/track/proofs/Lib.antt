@@ -1,9 +1,7 @@
 pub mod Size
 pub mod Within
-pub mod Filled
 pub mod Natural
 pub mod Tracks
 pub mod Together
 pub mod Looking
-pub mod Written
 pub mod OneAnswer

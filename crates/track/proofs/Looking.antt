@@ -1,9 +1,10 @@
--- `scan`, `find` and one read together give the record in force.
+-- `scan`, `seek` and one read together give the record in force.
 use mathlib.Core.Path.{◌≡◌, refl, sym, ◌∙◌, ap, subst}
 use mathlib.Core.Bool.{Bool, true, false, cond}
 use mathlib.Core.List.{List, [], ◌∷◌, map}
-use mathlib.Core.Option.{Option, none, some}
-use Prim.Native.Nat.{ℕ, zero, suc, ◌-◌, ◌<◌, ◌≤◌}
+use mathlib.Core.Option as starts
+use mathlib.Core.Option.{none, some}
+use Prim.Native.Nat.{ℕ, zero, suc, ◌-◌, ◌≤◌}
 use native.Mathlib.Omega.{arith}
 use borrow.Author.Tests.{ne_eqb}
 use lib.Dec.{T}
@@ -11,12 +12,17 @@ use lib.IntN.{ℤ}
 use lib.Signed.{lt_z}
 use lib.ListN.{length, take, length-map}
 use lib.Seq.{length-take-le, get_or-take}
+use Rattle.std.specs.Prelude.{Option, Result, Err}
 use Rattle.refusals.specs.Refusals.{not_a_track}
+use Rattle.refusals.specs.declared.Refusal.{Refusal}
+use Rattle.refusals.specs.declared.Refusal.TheVariants.{NotATrack}
 use Rattle.keyed.specs.Keyed.{or_else, Compared, less, same, greater, Above, in_force_by}
 use Rattle.plan.specs.Limit.{most_points}
-use Rattle.plan.specs.declared.Sought.{Sought}
+use Rattle.plan.specs.declared.entry.Entry.{Entry}
 use Rattle.plan.specs.Pictures.{Before, order, pictures, before_irreflexive, before_transitive}
-use Rattle.plan.specs.Seeking.{reach_of, none_sought, found_at, seek_of}
+use Rattle.plan.specs.Seeking.{reach_of, none_sought, sought_at, found_at, seek_of}
+use Rattle.plan.proofs.Chosen.{clamped_in}
+use Rattle.plan.proofs.Reaching.{reach_le}
 use Rattle.track.specs.declared.Point.{Point}
 use Rattle.track.specs.Track.{number, RisingPoints, is_track, point_in_force, none_in_force, shown, lookup_answer}
 use Rattle.track.specs.Inner.{unfilled, point_at, scan_of, held_of, look_from}
@@ -30,16 +36,8 @@ isn't : (b : Bool) → (T b → ⊥) → b ≡ false
 isn't true t = absurd (t tt)
 isn't false t = refl
 
-reach_by : (r n : ℕ) (b : Bool) → r ≤ n → cond b 0 (suc r) ≤ suc n
-reach_by r n true h = omega arith
-reach_by r n false h = omega arith
-
-reach_le : (k : ℤ) (l : List ℤ) → reach_of k l ≤ length l
-reach_le k [] = omega arith
-reach_le k (z ∷ zs) = reach_by (reach_of k zs) (length zs) (lt_z k z) (reach_le k zs)
-
 -- ---- the point in force stands just before the reach's end
-abbrev pick_at : List Point → ℕ → Option Point
+abbrev pick_at : List Point → ℕ → starts.Option Point
 pick_at l zero = none
 pick_at l (suc i) = some (point_at l i)
 
@@ -63,22 +61,22 @@ in_force_by_lem k x xs (same e) a ih =
     ap (λ (r : ℕ). pick_at (x ∷ xs) (suc r)) (sym none_left) ∙ ap (λ (b : Bool). pick_at (x ∷ xs) (cond b 0 (suc (reached k xs)))) (sym no)
 in_force_by_lem k x xs (greater h) a ih =
     let no : lt_z k (number x) ≡ false = isn't (lt_z k (number x)) (λ g. before_irreflexive k (before_transitive k (number x) k g h)) in
-    ap (λ (o : Option Point). or_else o (some x)) ih ∙ next_pick x xs (reached k xs) ∙ ap (λ (b : Bool). pick_at (x ∷ xs) (cond b 0 (suc (reached k xs)))) (sym no)
+    ap (λ (o : starts.Option Point). or_else o (some x)) ih ∙ next_pick x xs (reached k xs) ∙ ap (λ (b : Bool). pick_at (x ∷ xs) (cond b 0 (suc (reached k xs)))) (sym no)
 
 in_force_at : (k : ℤ) (l : List Point) → RisingPoints l → point_in_force k l ≡ pick_at l (reached k l)
 in_force_at k [] r = refl
 in_force_at k (x ∷ xs) r = in_force_by_lem k x xs (order k (number x)) r.0 (in_force_at k xs r.1)
 
 -- ---- by the reach
-found_suc : (i : ℕ) → found_at (suc i) ≡ record { result = 0; found = true; at = i }
+found_suc : (i : ℕ) → found_at (suc i) ≡ sought_at i
 found_suc i =
     let e : suc i - 1 ≡ i = omega arith in
-    ap (λ (b : Bool). cond b (record { result = 0; found = false; at = 0 }) (record { result = 0; found = true; at = suc i - 1 })) (ne_eqb (suc i) 0 (λ e. omega (arith, e)))
-    ∙ ap (λ (j : ℕ). record { result = 0; found = true; at = j }) e
+    ap (λ (b : Bool). cond b none_sought (sought_at (suc i - 1))) (ne_eqb (suc i) 0 (λ e. omega (arith, e))) ∙ ap sought_at e
 
-look_at : (ys : List Point) (n r : ℕ) → r ≤ n → look_from ys (found_at r) ≡ shown (pick_at (take n ys) r)
-look_at ys n zero h = refl
-look_at ys n (suc i) h = ap (look_from ys) (found_suc i) ∙ ap held_of (sym (get_or-take n ys i unfilled h))
+look_at : (ys : List Point) (n r : ℕ) → r ≤ n → n ≤ most_points → look_from ys (found_at r) ≡ shown (pick_at (take n ys) r)
+look_at ys n zero h g = refl
+look_at ys n (suc i) h g =
+    ap (look_from ys) (found_suc i) ∙ ap (λ (k : ℕ). held_of (point_at ys k)) (clamped_in i (omega arith)) ∙ ap held_of (sym (get_or-take n ys i unfilled h))
 
 module _ (ys : List Point) (n : ℕ) (p : ℤ) where
   abbrev r : ℕ
@@ -94,36 +92,21 @@ module _ (ys : List Point) (n : ℕ) (p : ℤ) where
       let l : length (map number (take n ys)) ≡ n = length-map (take n ys) number ∙ length-take-le n ys (let f = t.full in let w = t.few in omega (arith, f, w)) in
       omega (arith, h, l)
 
-  find_by : (b : Bool) → is_track ys n ≡ b → look_from ys (cond b (found_at r) (none_sought not_a_track)) ≡ cond b (shown (point_in_force p (take n ys))) (none_in_force not_a_track)
+  find_by : (b : Bool) → is_track ys n ≡ b → look_from ys (cond b (found_at r) (Err NotATrack)) ≡ cond b (shown (point_in_force p (take n ys))) (none_in_force not_a_track)
   find_by true e =
-      ap (λ (k : ℕ). look_from ys (found_at k)) (r_is e) ∙ look_at ys n (reached p (take n ys)) (r_le e) ∙ ap shown (sym (in_force_at p (take n ys) (rise_rising (take n ys) (is_track_lem ys n e).rises)))
+      let t = is_track_lem ys n e in
+      ap (λ (k : ℕ). look_from ys (found_at k)) (r_is e) ∙ look_at ys n (reached p (take n ys)) (r_le e) t.few ∙ ap shown (sym (in_force_at p (take n ys) (rise_rising (take n ys) t.rises)))
   find_by false e = refl
 
-  abbrev pub seek : Sought
+  abbrev pub seek : Result (Option Entry) Refusal
   seek = seek_of (scan_of ys n) n p
 
-  seek_is : seek ≡ cond (is_track ys n) (found_at r) (none_sought not_a_track)
-  seek_is = ap (λ (u : Bool). cond u (found_at r) (none_sought not_a_track)) (scan_track ys n)
+  seek_is : seek ≡ cond (is_track ys n) (found_at r) (Err NotATrack)
+  seek_is = ap (λ (u : Bool). cond u (found_at r) (Err NotATrack)) (scan_track ys n)
 
   pub look_is : look_from ys seek ≡ lookup_answer ys n p
   look_is = ap (look_from ys) seek_is ∙ find_by (is_track ys n) refl
 
-  -- what `find` asks, and where the one read stands
+  -- what `seek` asks
   pub few : (scan_of ys n).track ≡ true → n ≤ most_points
   few e = (is_track_lem ys n (sym (scan_track ys n) ∙ e)).few
-
-  no_way : {X : Type 0} → false ≡ true → X
-  no_way e = absurd (subst T (sym e) tt)
-
-  at_by : (k : ℕ) → k ≤ length ys → (found_at k).found ≡ true → (found_at k).at < length ys
-  at_by zero h e = no_way e
-  at_by (suc i) h e = subst (λ (f : Sought). f.at < length ys) (sym (found_suc i)) h
-
-  inside_by : (b : Bool) → is_track ys n ≡ b → (cond b (found_at r) (none_sought not_a_track)).found ≡ true → (cond b (found_at r) (none_sought not_a_track)).at < length ys
-  inside_by true e f =
-      let t = is_track_lem ys n e in
-      at_by r (let h = r_le e in let q = r_is e in let u = t.full in let w = t.few in omega (arith, h, q, u, w)) f
-  inside_by false e f = no_way f
-
-  pub inside : seek.found ≡ true → seek.at < length ys
-  inside f = subst (λ (g : Sought). g.at < length ys) (sym seek_is) (inside_by (is_track ys n) refl (ap (λ (g : Sought). g.found) (sym seek_is) ∙ f))

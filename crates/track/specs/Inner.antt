@@ -1,17 +1,18 @@
 -- What the inner functions of a track do.
-use Rattle.std.specs.Prelude.{ℕ, zero, suc, true, false, cond, List, [], map, pos, length, get_or, set, eqb, ltb}
+use Rattle.std.specs.Prelude.{ℕ, zero, suc, true, false, Option, Some, None, Result, Ok, Err, List, [], map, pos, length, get_or}
+use Rattle.refusals.specs.declared.Refusal.{Refusal}
+use Rattle.refusals.specs.Numbered.{number_of}
+use Rattle.plan.specs.declared.entry.Entry.{Entry}
 use Rattle.plan.specs.declared.Scanned.{Scanned}
+use Rattle.plan.specs.declared.Source.{Source}
+use Rattle.plan.specs.declared.Source.TheVariants.{First, Second, Neither}
 use Rattle.plan.specs.declared.Layout.{Layout}
-use Rattle.plan.specs.declared.Sought.{Sought}
-use Rattle.plan.specs.Limit.{most_points}
 use Rattle.plan.specs.Scanning.{extent_of, begun, noted}
-use Rattle.plan.specs.Planning.{neither, left_of, right_of}
 use Rattle.track.specs.declared.Point.{Point}
-use Rattle.track.specs.declared.Placing.{Placing}
 use Rattle.track.specs.declared.Placed.{Placed}
 use Rattle.track.specs.declared.InForce.{InForce}
 use Rattle.track.specs.declared.Joined.{Joined}
-use Rattle.track.specs.Track.{may_stand, cleared, place_refusal}
+use Rattle.track.specs.Track.{may_stand, cleared, none_in_force}
 
 -- what `get_or` gives past a list's end: the value that the checker itself uses there
 abbrev pub unfilled : Point
@@ -32,45 +33,42 @@ scanned_to seen table (suc i) = noted_point (scanned_to seen table i) i (point_a
 abbrev pub scan_of : List Point → ℕ → Scanned
 scan_of table count = scanned_to (begun (length table) count) table (extent_of (length table) count)
 
--- the list with its first i entries as f has them
-abbrev pub set_to : List Point → (ℕ → Point) → ℕ → List Point
-set_to table f zero = table
-set_to table f (suc i) = set (set_to table f i) i (f i)
-
 -- ---- fill
 -- the point that a source names
-abbrev pub chosen_of : List Point → List Point → ℕ → Point
-chosen_of a b source = cond (ltb source most_points) (point_at a (left_of source)) (cond (ltb source neither) (point_at b (right_of source)) cleared)
+abbrev pub chosen_of : List Point → List Point → Source → Point
+chosen_of a b (First entry) = point_at a entry.at
+chosen_of a b (Second entry) = point_at b entry.at
+chosen_of a b Neither = cleared
 
-abbrev pub filled_to : List Point → List Point → List Point → Layout → List Point
-filled_to table a b l = cond (eqb l.result 0) (map (chosen_of a b) l.sources) table
+abbrev pub filled_by : List Point → List Point → Layout → List Point
+filled_by a b l = map (chosen_of a b) l.sources
 
-abbrev pub answer_of : Layout → Joined
-answer_of l = record { result = l.result; count = l.count }
+-- no entry where it is refused
+abbrev pub filled_to : List Point → List Point → List Point → Result Layout Refusal → List Point
+filled_to table a b (Ok l) = filled_by a b l
+filled_to table a b (Err _) = table
+
+-- ---- join
+-- a join's outcome, as it is answered: on a refusal the count is 0
+abbrev pub joined : Result ℕ Refusal → Joined
+joined (Ok n) = record { result = 0; count = n }
+joined (Err r) = record { result = number_of r; count = 0 }
+
+abbrev pub answer_of : Result Layout Refusal → Joined
+answer_of (Ok l) = joined (Ok l.count)
+answer_of (Err r) = joined (Err r)
 
 -- ---- lookup
 abbrev pub held_of : Point → InForce
 held_of p = record { result = 0; found = true; point = p }
 
-abbrev pub missing_of : Sought → InForce
-missing_of f = record { result = f.result; found = false; point = cleared }
-
-abbrev pub look_from : List Point → Sought → InForce
-look_from table f = cond f.found (held_of (point_at table f.at)) (missing_of f)
+abbrev pub look_from : List Point → Result (Option Entry) Refusal → InForce
+look_from table (Ok (Some entry)) = held_of (point_at table entry.at)
+look_from table (Ok None) = none_in_force 0
+look_from table (Err r) = none_in_force (number_of r)
 
 -- ---- place
-abbrev pub prepared : Point → ℕ → Placing
-prepared x entries = record { result = place_refusal x entries; count = cond (eqb (place_refusal x entries) 0) (cond x.«record».refresh 1 0) 0; point = x }
-
-abbrev pub write_bound : Placing → ℕ
-write_bound p = cond (eqb p.result 0) most_points 0
-
-abbrev pub entry_of : Placing → ℕ → Point
-entry_of p i = cond (ltb i p.count) p.point cleared
-
--- no entry where it is refused
-abbrev pub written_to : List Point → Placing → List Point
-written_to table p = set_to table (entry_of p) (write_bound p)
-
-abbrev pub place_answer_of : Placing → Placed
-place_answer_of p = record { result = p.result; count = p.count }
+-- a placing's outcome, as it is answered: on a refusal the count is 0
+abbrev pub placed : Result ℕ Refusal → Placed
+placed (Ok n) = record { result = 0; count = n }
+placed (Err r) = record { result = number_of r; count = 0 }

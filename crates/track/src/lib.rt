@@ -5,14 +5,15 @@
 
 ghost use Rattle.std.specs.Prelude.{◌≡◌, ◌<◌, length};
 ghost use Rattle.plan.specs.Limit.{most_points};
-ghost use Rattle.track.specs.Track.{point_with, cleared, may_stand, lookup_answer, join_answer, join_table, place_answer, place_table};
-ghost use Rattle.track.specs.Inner.{noted_point, scan_of, filled_to, answer_of, held_of, missing_of, prepared, write_bound, entry_of, written_to, place_answer_of};
+ghost use Rattle.track.specs.Track.{point_with, cleared, may_stand, none_in_force, lookup_answer, join_answer, join_table, place_answer, place_table};
+ghost use Rattle.track.specs.Inner.{noted_point, scan_of, filled_by, joined, held_of, placed};
 
-use plan::{Layout, Scanned, Sought};
+use plan::{Layout, Scanned, Source};
 use record::Record;
+use refusals::Refusal;
 
 // A picture number, in output order, the number of the segment that the point came from, and the record in force from there on.
-#[derive(Clone, Copy)]
+#[derive(Clone, Copy, Debug, PartialEq, Eq)]
 pub struct Point {
     pub picture: i32,
     pub segment: u16,
@@ -20,6 +21,7 @@ pub struct Point {
 }
 
 // An entry past a track's count: picture 0 and segment 0 with the empty record.
+#[tactic(auto, unfolding(crate::specs::Track::cleared))]
 pub fn cleared_point() -> Point
     ensures { result ≡ cleared }
 {
@@ -55,51 +57,64 @@ fn scan(table: &[Point], count: usize) -> Scanned
     let entries = table.len();
     let extent = plan::extent(entries, count);
     let mut seen = plan::begin(entries, count);
-    let mut i = 0;
-    while i < extent {
-        let point = table[i];
-        seen = note_point(seen, i, point);
-        i += 1;
+    for (i, point) in table[..extent].iter().enumerate() {
+        seen = note_point(seen, i, *point);
     }
     seen
 }
 
-// Writes each entry of the result, as the layout has it; none where it is a refusal.
-fn fill(res: &mut [Point], first: &[Point], second: &[Point], layout: Layout)
-    requires { layout.result ≡ 0 → (length res.old ≡ most_points) × (length first.now ≡ most_points) × (length second.now ≡ most_points) }
-    ensures { res.new ≡ filled_to res.old first.now second.now layout }
+// Writes each entry of the result, as the layout has it. (Each arm stores by itself: a match whose value is stored copies each point twice.)
+fn fill(res: &mut [Point], first: &[Point], second: &[Point], layout: &Layout)
+    requires { (length res.old ≡ most_points) × (length first.now ≡ most_points) × (length second.now ≡ most_points) }
+    ensures { res.new ≡ filled_by first.now second.now layout.now }
 {
-    let bound = plan::bound(layout);
-    let mut k = 0;
-    while k < bound {
-        let source = plan::source_at(layout, k);
-        if source < plan::SECOND {
-            let i = plan::left(source);
-            res[k] = first[i];
-        } else if source < plan::NEITHER {
-            let j = plan::right(source);
-            res[k] = second[j];
-        } else {
-            res[k] = cleared_point();
+    for (k, source) in layout.sources().iter().enumerate() {
+        match *source {
+            Source::First(entry) => res[k] = first[usize::from(entry)],
+            Source::Second(entry) => res[k] = second[usize::from(entry)],
+            Source::Neither => res[k] = cleared_point(),
         }
-        k += 1;
     }
 }
 
-// The answer of a join: 0 and the new count, or a refusal and 0.
-#[derive(Clone, Copy)]
+// The answer of a join: 0 and the new count, or a refusal and 0. (01: lookup, placing and join answer with a number, and 0 means done.) On
+// the way to it the answer is a Result. README names it and the answer of a placing, so they are two types.
+#[derive(Clone, Copy, Debug, PartialEq, Eq)]
 pub struct Joined {
     pub result: u8,
     pub count: usize,
 }
 
-fn join_answer(layout: Layout) -> Joined
-    ensures { result ≡ answer_of layout }
-{
-    Joined {
-        result: layout.result,
-        count: layout.count,
+impl From<Result<usize, Refusal>> for Joined {
+    ghost from_gives = { λ outcome answer. answer ≡ joined outcome };
+
+    fn from(outcome: Result<usize, Refusal>) -> Joined {
+        match outcome {
+            Ok(count) => Joined { result: 0, count },
+            Err(refusal) => Joined {
+                result: refusal.number(),
+                count: 0,
+            },
+        }
     }
+}
+
+// A join on the way to its answer: the new count, or which refusal.
+fn join_into(
+    first: &[Point],
+    first_count: usize,
+    second: &[Point],
+    second_count: usize,
+    res: &mut [Point],
+) -> Result<usize, Refusal>
+    ensures outcome { joined result ≡ join_answer first.now first_count second.now second_count (length res.old) }
+    ensures table { res.new ≡ join_table res.old first.now first_count second.now second_count }
+{
+    let s = scan(first, first_count);
+    let t = scan(second, second_count);
+    let layout = plan::decide(s, first_count, t, second_count, res.len())?;
+    fill(res, first, second, &layout);
+    Ok(layout.count)
 }
 
 // Every number of either track in rising order, with the second's point where both hold the number.
@@ -114,16 +129,12 @@ pub fn join(
     ensures answer { result ≡ join_answer first.now first_count second.now second_count (length res.old) }
     ensures table { res.new ≡ join_table res.old first.now first_count second.now second_count }
 {
-    let s = scan(first, first_count);
-    let t = scan(second, second_count);
-    let layout = plan::decide(s, first_count, t, second_count, res.len());
-    fill(res, first, second, layout);
-    join_answer(layout)
+    Joined::from(join_into(first, first_count, second, second_count, res))
 }
 
-// The answer of a lookup: the point in force, with its number, at which its record has started, and its segment; or nothing, and then a
-// cleared point.
-#[derive(Clone, Copy)]
+// The answer of a lookup, with a number as 01 has it, and a flag beside the point, which README names: the point in force, with its number, at which its record has started, and its segment;
+// or nothing, and then a cleared point.
+#[derive(Clone, Copy, Debug, PartialEq, Eq)]
 pub struct InForce {
     pub result: u8,
     pub found: bool,
@@ -140,11 +151,12 @@ fn held(point: Point) -> InForce
     }
 }
 
-fn missing(sought: Sought) -> InForce
-    ensures { result ≡ missing_of sought }
+// Nothing is in force, with 0, or it is refused, with its number: so the cleared point is made in one place.
+fn missing(number: u8) -> InForce
+    ensures { result ≡ none_in_force number }
 {
     InForce {
-        result: sought.result,
+        result: number,
         found: false,
         point: cleared_point(),
     }
@@ -155,98 +167,54 @@ pub fn lookup(table: &[Point], count: usize, picture: i32) -> InForce
     ensures answer { result ≡ lookup_answer table.now count picture }
 {
     let seen = scan(table, count);
-    let sought = plan::seek(seen, count, picture);
-    let is_found = plan::is_found(sought);
-    if is_found {
-        let i = plan::entry_found(sought);
-        let point = table[i];
-        return held(point);
-    }
-    missing(sought)
-}
-
-// A placing that is decided: the answer, and the point to be written.
-#[derive(Clone, Copy)]
-pub struct Placing {
-    pub result: u8,
-    pub count: usize,
-    pub point: Point,
-}
-
-// The record is judged before the table; the flag 0 leaves no point.
-fn prepare(r: Record, picture: i32, segment: u16, entries: usize) -> Placing
-    ensures { result ≡ prepared (point_with r picture segment) entries }
-{
-    let point = Point {
-        picture,
-        segment,
-        record: r,
+    let number = match plan::seek(seen, count, picture) {
+        Ok(Some(entry)) => return held(table[usize::from(entry)]),
+        Ok(None) => 0,
+        Err(refusal) => refusal.number(),
     };
-    if !valid::is_valid(r) {
-        return Placing {
-            result: refusals::NOT_VALID,
-            count: 0,
-            point,
-        };
-    }
-    if entries != plan::POINTS {
-        return Placing {
-            result: refusals::UNFIT_OUTPUT,
-            count: 0,
-            point,
-        };
-    }
-    Placing {
-        result: 0,
-        count: r.refresh as usize,
-        point,
-    }
+    missing(number)
 }
 
-// A refusal writes no entry.
-fn write_bound(placing: Placing) -> usize
-    ensures { result ≡ write_bound placing }
-{
-    if placing.result == 0 { plan::POINTS } else { 0 }
-}
-
-fn entry(placing: Placing, index: usize) -> Point
-    ensures { result ≡ entry_of placing index }
-{
-    if index < placing.count {
-        return placing.point;
-    }
-    cleared_point()
-}
-
-// Writes the track of a placing, and clears the entries past it.
-fn write(table: &mut [Point], placing: Placing)
-    requires { placing.result ≡ 0 → length table.old ≡ most_points }
-    ensures { table.new ≡ written_to table.old placing }
-{
-    let bound = write_bound(placing);
-    let mut i = 0;
-    while i < bound {
-        let point = entry(placing, i);
-        table[i] = point;
-        i += 1;
-    }
-}
-
-// The answer of a placing: 0 and the new count, or a refusal and 0.
-#[derive(Clone, Copy)]
+// The answer of a placing, as of a join: 0 and the new count, or a refusal and 0.
+#[derive(Clone, Copy, Debug, PartialEq, Eq)]
 pub struct Placed {
     pub result: u8,
     pub count: usize,
 }
 
-fn place_answer(placing: Placing) -> Placed
-    ensures { result ≡ place_answer_of placing }
-{
-    Placed {
-        result: placing.result,
-        count: placing.count,
+impl From<Result<usize, Refusal>> for Placed {
+    ghost from_gives = { λ outcome answer. answer ≡ placed outcome };
+
+    fn from(outcome: Result<usize, Refusal>) -> Placed {
+        match outcome {
+            Ok(count) => Placed { result: 0, count },
+            Err(refusal) => Placed {
+                result: refusal.number(),
+                count: 0,
+            },
+        }
     }
+}
+
+// A placing on the way to its answer: the new count, or which refusal. The record is judged before the table; the flag 0 leaves no point.
+fn place_into(point: Point, table: &mut [Point]) -> Result<usize, Refusal>
+    ensures outcome { placed result ≡ place_answer point (length table.old) }
+    ensures table { table.new ≡ place_table table.old point }
+{
+    let shown = point.record;
+    if !valid::is_valid(shown) {
+        return Err(Refusal::NotValid);
+    }
+    if table.len() != plan::POINTS {
+        return Err(Refusal::UnfitOutput);
+    }
+    table.fill(cleared_point());
+    let stays = shown.refresh;
+    if stays {
+        table[0] = point;
+        return Ok(1);
+    }
+    Ok(0)
 }
 
 // A track of one point in the lent table: the record, of a segment, at a picture; with the flag 0, which says that nothing follows, the
@@ -255,7 +223,10 @@ pub fn place(r: Record, picture: i32, segment: u16, table: &mut [Point]) -> Plac
     ensures answer { result ≡ place_answer (point_with r picture segment) (length table.old) }
     ensures table { table.new ≡ place_table table.old (point_with r picture segment) }
 {
-    let placing = prepare(r, picture, segment, table.len());
-    write(table, placing);
-    place_answer(placing)
+    let point = Point {
+        picture,
+        segment,
+        record: r,
+    };
+    Placed::from(place_into(point, table))
 }

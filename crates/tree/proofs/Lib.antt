@@ -20,3 +20,4 @@ pub mod Widths
 pub mod Stands
 pub mod Edges
 pub mod Held
+pub mod Reached

@@ -8,7 +8,7 @@ use std::io::{Read, Write};
 // How much of the input is read: one byte more than a unit may have.
 const MOST_BYTES: usize = sei::MOST_BYTES + 1;
 
-// Writes the listing of what the reader gives.
+// Writes the listing of what the reader gives, as `show` does of another input.
 fn list<R: Read + Drop, W: Write>(reader: R, writer: &mut W) -> io::Result<()> {
     let mut input: ArrayVec<u8, MOST_BYTES> = ArrayVec::new();
     io::copy(&mut reader.take(MOST_BYTES as u64), &mut input)?;

@@ -1,25 +1,26 @@
 -- Laws of lists of blocks, each said once.
-use Prim.Native.Nat.{ℕ, ◌+◌, ◌<◌, ◌≤◌}
+use Prim.Native.Nat.{ℕ, ◌+◌, ◌<◌}
 use mathlib.Core.Path.{◌≡◌, refl, ap, sym}
-use mathlib.Core.List.{List, [], ◌∷◌, ◌++◌, append-nil}
+use mathlib.Core.List.{List, [], ◌∷◌, ◌++◌, map, append-nil}
 use mathlib.Core.Bool.{Bool, true, false, not, ◌&&◌, ◌||◌, and-true, and-false, and_assoc, or_assoc}
 use native.Mathlib.Omega.{arith}
 use native.Mathlib.Numerals.{add-one}
 use lib.Dec.{eqb}
-use lib.ListN.{length, take, drop, length-map, get_or-map}
-use lib.Seq.{slice-cons, append_snoc}
+use lib.ListN.{length, get_or, take, drop}
+use lib.Seq.{drop-cons, append_snoc}
+use Rattle.std.proofs.lemmas.List.{map_more}
 use Rattle.tree.specs.Bits.{bit}
 use Rattle.record.specs.declared.Block.{Block}
 use Rattle.record.specs.declared.Block.TheVariants.{Nothing, Level1, Level2, Level5}
-use Rattle.record.specs.declared.Record.{Record}
+use Rattle.record.specs.declared.Place.{Place}
 use Rattle.record.specs.Level.{level_of}
-use Rattle.record.specs.Blocks.{empty_place, block_in, all_blocks}
-use Rattle.record.proofs.Laws.{not_or, eqb_turned, block_at, take_more}
+use Rattle.record.specs.Blocks.{empty_place, block_in}
+use Rattle.record.proofs.Laws.{not_or, eqb_turned}
 use Rattle.valid.specs.Valid.{every, many, targets, among, all_differ, new_target, valid_block, may_follow, well_formed}
 
 -- ---- one list behind another
 
-targets-append : (xs ys : List Block) → targets (xs ++ ys) ≡ targets xs ++ targets ys
+pub targets-append : (xs ys : List Block) → targets (xs ++ ys) ≡ targets xs ++ targets ys
 unfolding targets
 targets-append [] ys = refl
 targets-append (Nothing ∷ xs) ys = targets-append xs ys
@@ -37,14 +38,6 @@ new_target-append xs ys Nothing = refl
 new_target-append xs ys (Level1 min max avg) = refl
 new_target-append xs ys (Level2 t s o p c g m) = rw (targets-append xs ys, among-append, not_or)
 new_target-append xs ys (Level5 l r t b) = refl
-
--- a block has room in its level, and in level 2 a new target, where none stands before it
-pub first_follows : (b : Block) → valid_block b ≡ true → may_follow [] b ≡ true
-unfolding may_follow many targets among
-first_follows Nothing h = h
-first_follows (Level1 min max avg) h = refl
-first_follows (Level2 t s o p c g m) h = refl
-first_follows (Level5 l r t b) h = refl
 
 -- where no level 2 block stands before it, each block's target is new
 pub new_target_none : (before : List Block) (b : Block) → targets before ≡ [] → new_target before b ≡ true
@@ -89,13 +82,26 @@ targets_more bs (Level1 min max avg) = rw (targets-append bs (Level1 min max avg
 targets_more bs (Level2 t s o p c g m) = rw (targets-append bs (Level2 t s o p c g m ∷ []), all_differ_more)
 targets_more bs (Level5 l r t b) = rw (targets-append bs (Level5 l r t b ∷ []), append-nil, and-true)
 
--- ---- the blocks of a record, place by place
+-- ---- blocks in places, one by one
 
--- the walk over the first n blocks of a record, at block j
-pub walk_more : (r : Record) (j n : ℕ) → j < n → n ≤ length r.places
-    → well_formed (take j (all_blocks r)) (drop j (take n (all_blocks r)))
-    ≡ valid_block (block_at r j) && may_follow (take j (all_blocks r)) (block_at r j) && well_formed (take (j + 1) (all_blocks r)) (drop (j + 1) (take n (all_blocks r)))
-unfolding well_formed
-walk_more r j n h k =
-    let k' : n ≤ length (all_blocks r) = rw (length-map r.places block_in) k in
-    rw (take_more r j (omega arith), slice-cons j n (all_blocks r) Nothing h k', get_or-map block_in r.places j empty_place, add-one j)
+module _ (ps : List Place) (i : ℕ) (h : i < length ps) where
+  abbrev here : Block
+  here = block_in (get_or ps i empty_place)
+
+  before_more : map block_in (take (i + 1) ps) ≡ map block_in (take i ps) ++ (here ∷ [])
+  before_more = map_more block_in ps i empty_place h
+
+  -- how many of a level there are, with one place more
+  pub many_places : (l : ℕ) → many l (map block_in (take (i + 1) ps)) ≡ many l (map block_in (take i ps)) + bit (eqb (level_of here) l)
+  many_places l = rw before_more (many_more l (map block_in (take i ps)) here)
+
+  -- whether a block's target is new, behind one place more
+  pub new_target_places : (b : Block) → new_target (map block_in (take (i + 1) ps)) b ≡ new_target (map block_in (take i ps)) b && new_target (here ∷ []) b
+  new_target_places b = rw before_more (new_target-append (map block_in (take i ps)) (here ∷ []) b)
+
+  -- the walk over the blocks, at the place
+  pub walk_more :
+      well_formed (map block_in (take i ps)) (map block_in (drop i ps))
+      ≡ valid_block here && may_follow (map block_in (take i ps)) here && well_formed (map block_in (take (i + 1) ps)) (map block_in (drop (i + 1) ps))
+  unfolding well_formed
+  walk_more = rw (before_more, drop-cons ps i empty_place h, add-one i)

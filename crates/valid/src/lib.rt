@@ -1,9 +1,9 @@
 // Whether a record is valid, decided by a walk over its blocks; and a record with one block more.
 #![tactic(auto)]
 
-ghost use Rattle.std.specs.Prelude.{◌≡◌, true, false, not, [], ◌∷◌, ◌+◌, ◌<◌, ◌≤◌, take};
-ghost use Rattle.record.specs.Blocks.{most_blocks, all_blocks};
-ghost use Rattle.valid.specs.Valid.{new_target, may_follow, with_block, valid};
+ghost use Rattle.std.specs.Prelude.{◌≡◌, not, [], ◌∷◌, ◌<◌, ◌≤◌, length, map, take};
+ghost use Rattle.record.specs.Blocks.{most_blocks, block_in, all_blocks};
+ghost use Rattle.valid.specs.Valid.{every, is_nothing, new_target, may_follow, valid_block, well_formed, with_block, valid};
 
 use record::{Block, Place, Record};
 
@@ -11,23 +11,34 @@ use record::{Block, Place, Record};
 fn same_target(a: Block, b: Block) -> bool
     ensures { result ≡ not (new_target (a ∷ []) b) }
 {
-    match a {
-        Block::Nothing => false,
-        Block::Level1 { .. } => false,
-        Block::Level2 {
-            target_max_pq: x,
-            ..
-        } => match b {
-            Block::Nothing => false,
-            Block::Level1 { .. } => false,
+    match (a, b) {
+        (
+            Block::Level2 {
+                target_max_pq: x,
+                ..
+            },
             Block::Level2 {
                 target_max_pq: y,
                 ..
-            } => x == y,
-            Block::Level5 { .. } => false,
-        },
-        Block::Level5 { .. } => false,
+            },
+        ) => x == y,
+        _ => false,
     }
+}
+
+// Whether b may stand behind the blocks of the places before it.
+fn follows(before: &[Place], b: Block) -> bool
+    requires { length before.now ≤ most_blocks }
+    ensures { result ≡ may_follow (map block_in before.now) b }
+{
+    let l = record::level_of(b);
+    let mut seen = 0u8;
+    let mut met = false;
+    for place in before {
+        seen += u8::from(record::level_of(place.block) == l);
+        met |= same_target(place.block, b);
+    }
+    (seen < record::most_of(l)) & !met
 }
 
 // Whether b may stand behind the first n blocks of r.
@@ -35,33 +46,49 @@ pub fn may_follow(r: Record, n: u8, b: Block) -> bool
     requires { n ≤ most_blocks }
     ensures { result ≡ may_follow (take n (all_blocks r)) b }
 {
-    let l = record::level_of(b);
-    let mut seen: u8 = 0;
-    let mut met = false;
-    let mut j: u8 = 0;
-    while j < n {
-        let p = r.places[j as usize];
-        let a = p.block;
-        seen += (record::level_of(a) == l) as u8;
-        met = met | same_target(a, b);
-        j += 1;
-    }
-    (seen < record::most_of(l)) & !met
+    follows(&r.places[..n as usize], b)
 }
 
 // The record with b as its next block.
-pub fn with_block(r: Record, b: Block) -> Record
+pub fn with_block(mut r: Record, b: Block) -> Record
     requires { r.count < most_blocks }
     ensures { result ≡ with_block r b }
 {
-    let i = r.count as usize;
-    let mut q = r;
-    q.places[i] = Place { block: b };
-    q.count = r.count + 1;
-    q
+    r.places[r.count as usize] = Place { block: b };
+    r.count += 1;
+    r
 }
 
-// Whether r is a valid record: the walk over its blocks, then over the places behind them. It is one function, and `may_follow` is not asked for the first block, because each call with a record copies its places.
+// Whether b is a block that is fine by itself.
+fn is_fine(b: Block) -> bool
+    ensures { result ≡ valid_block b }
+{
+    (record::level_of(b) != 0) & record::in_range(b) & record::in_order(b)
+}
+
+// Whether each place holds a block that is fine and may stand behind those before it.
+fn is_well_formed(places: &[Place]) -> bool
+    requires { length places.now ≤ most_blocks }
+    ensures { result ≡ well_formed [] (map block_in places.now) }
+{
+    for (i, place) in places.iter().enumerate() {
+        if !(is_fine(place.block) && follows(&places[..i], place.block)) {
+            return false;
+        }
+    }
+    true
+}
+
+// Whether no place holds a block.
+fn is_empty(places: &[Place]) -> bool
+    ensures { result ≡ every is_nothing (map block_in places.now) }
+{
+    places
+        .iter()
+        .all(|place| matches!(place.block, Block::Nothing))
+}
+
+// Whether r is a valid record: the walk over its blocks, then over the places behind them.
 pub fn is_valid(r: Record) -> bool
     ensures { result ≡ valid r }
 {
@@ -69,33 +96,6 @@ pub fn is_valid(r: Record) -> bool
     if Record::BLOCKS < n {
         return false;
     }
-    let mut j: u8 = 0;
-    while j < n {
-        let p = r.places[j as usize];
-        let b = p.block;
-        if (record::level_of(b) != 0) & record::in_range(b) & record::in_order(b) {
-            if j == 0 {
-                j += 1;
-            } else {
-                if may_follow(r, j, b) {
-                    j += 1;
-                } else {
-                    return false;
-                }
-            }
-        } else {
-            return false;
-        }
-    }
-    let mut k = j as usize;
-    while k < Record::BLOCKS as usize {
-        let p = r.places[k];
-        let b = p.block;
-        if record::level_of(b) == 0 {
-            k += 1;
-        } else {
-            return false;
-        }
-    }
-    r.refresh | (n == 0)
+    let (blocks, behind) = r.places.split_at(n as usize);
+    is_well_formed(blocks) && is_empty(behind) && (r.refresh | (n == 0))
 }

@@ -8,7 +8,7 @@ use std::io::{Read, Write};
 // How much of the input is read.
 const MOST_BYTES: usize = 4096;
 
-// Writes why what the reader gives is refused.
+// Writes why what the reader gives is refused, as `show` writes a listing.
 fn explain<R: Read + Drop, W: Write>(reader: R, writer: &mut W) -> io::Result<()> {
     let mut input: ArrayVec<u8, MOST_BYTES> = ArrayVec::new();
     io::copy(&mut reader.take(MOST_BYTES as u64), &mut input)?;

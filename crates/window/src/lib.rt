@@ -14,7 +14,8 @@ fn one(s: &[u8], i: usize) -> u32
     s[i] as u32
 }
 
-// The number of two bytes, of four, and of at most four. Two and four are one load where the machine has it.
+// The number of two bytes, of four, and of at most four. Two and four are one load where the machine has it. (std's `from_be_bytes` would be
+// given an array of the same bytes, one by one.)
 fn two(s: &[u8], i: usize) -> u32
     requires { i + 2 ≤ length s.now }
     ensures { result ≡ bytes_number s.now i 2 }
@@ -33,22 +34,16 @@ fn few(s: &[u8], i: usize, k: usize) -> u32
     requires { (i + k ≤ length s.now) × (k ≤ 4) }
     ensures { result ≡ bytes_number s.now i k }
 {
-    if k == 0 {
-        return 0;
+    match k {
+        0 => 0,
+        1 => one(s, i),
+        2 => two(s, i),
+        3 => two(s, i) * 256 + one(s, i + 2),
+        _ => four(s, i),
     }
-    if k == 1 {
-        return one(s, i);
-    }
-    if k == 2 {
-        return two(s, i);
-    }
-    if k == 3 {
-        return two(s, i) * 256 + one(s, i + 2);
-    }
-    four(s, i)
 }
 
-// The number of at most four bytes, and of the next one if `more` says so.
+// The number of at most four bytes, and of the next one if `more` says so: a number of bytes, 0 or 1, and no choice between two steps.
 fn few_and_next(s: &[u8], i: usize, k: usize, more: bool) -> u64
     requires { (i + (k + bit more) ≤ length s.now) × (k ≤ 4) }
     ensures { result ≡ bytes_number s.now i (k + bit more) }

@@ -11,6 +11,8 @@ use Rattle.wrapper.proofs.most_wrapped_bytes.Kinds as most-wrapped-bytes
 use Rattle.wrapper.proofs.most_wrapped_bytes.Reads as most-wrapped-bytes-contract
 use Rattle.wrapper.proofs.without_room.Kinds as without-room
 use Rattle.wrapper.proofs.without_room.Reads as without-room-contract
+use Rattle.wrapper.proofs.try_write.Kinds as try-write
+use Rattle.wrapper.proofs.try_write.Reads as try-write-contract
 use Rattle.wrapper.proofs.write_wrapped.Kinds as write-wrapped
 use Rattle.wrapper.proofs.write_wrapped.Reads as write-wrapped-contract
 
@@ -31,3 +33,6 @@ most_wrapped_bytes_one κs a x y s t e f = e ∙ sym f
 
 pub write_wrapped_one : OneResultAndBuffer write-wrapped.ps write-wrapped.r write-wrapped-contract.Post (λ κs s. s.1.0.now)
 write_wrapped_one κs a x y s t b c e f = (e.0 ∙ sym f.0, e.1 ∙ sym f.1)
+
+pub try_write_one : OneResultAndBuffer try-write.ps try-write.r try-write-contract.Post (λ κs s. s.1.0.now)
+try_write_one κs a x y s t b c e f = (e.0 ∙ sym f.0, e.1 ∙ sym f.1)

@@ -7,11 +7,18 @@ use native.Mathlib.Omega.{arith}
 use borrow.Author.Tests.{ltb-true}
 use lib.Dec.{ltb}
 use lib.IntN.{ℤ, pos, negsuc}
-use lib.ListN.{length, take, drop, replicate, length-append, length-take, take-append-drop}
+use native.Mathlib.Nat.{mul-suc}
+use Rattle.std.specs.List.{flat_map}
+use Rattle.std.proofs.lemmas.List.{take_more, flat_map_more}
+use Rattle.std.proofs.lemmas.List.Folds.{length-flat_map-take}
+use lib.ListN.{length, get_or, take, drop, replicate, length-append, length-take, take-append-drop}
 use lib.Signed.{mag}
+use mir.Val.{to_z, of_z}
+use mir.ValLaws.{to_z-of_z}
+use mir.Syntax.{w16, w32}
 use Rattle.tree.specs.Bits.{bit, code, bits_of, pack, Bytes}
 use Rattle.tree.specs.Codes.{halvings, ue_code}
-use Rattle.tree.specs.Coding.{signed, holds, hold_all, field_code, fields_code, total_width}
+use Rattle.tree.specs.Coding.{signed, holds, hold_all, complement, field_code, fields_code, total_width}
 use Rattle.tree.specs.Reading.{to_boundary}
 use Rattle.tree.specs.Syntax.{Field, coding_of}
 use Rattle.tree.specs.Meaning.{Element, zero_bit, all_bits, sum_of_widths, field_elements}
@@ -19,7 +26,7 @@ use Rattle.tree.proofs.Lists.{bytes_take}
 use Rattle.tree.proofs.Bits.{length-code, pack_bits}
 use Rattle.tree.proofs.Meaning.{all_bits-append, length-all}
 use Rattle.pen.specs.declared.Pen.{Pen}
-use Rattle.pen.specs.Writing.{start_pen, RoomForBits, Wrote}
+use Rattle.pen.specs.Writing.{start_pen, Wrote}
 use Rattle.pen.proofs.Writing.{wrote_then}
 use Rattle.record.specs.declared.Block.{Block}
 use Rattle.record.specs.declared.Block.TheVariants.{Nothing, Level1, Level2, Level5}
@@ -29,33 +36,13 @@ use Rattle.record.specs.declared.Record.{Record}
 use Rattle.record.specs.Blocks.{in_range}
 use Rattle.record.proofs.Laws.{and_left, and_right}
 use Rattle.syntax.specs.Element.{to_byte, block_elements, head_elements, elements, payload, bits_of_data}
-use Rattle.syntax.proofs.Largest.{widths_to_byte, payload-length}
+use Rattle.syntax.proofs.Largest.{payload-length}
 use Rattle.syntax.proofs.Exact.{whole}
 use Rattle.writer.specs.Writing.{flag_code}
-
-pub length_pair : (n a b : ℕ) → length (code n a ++ code n b) ≡ n + n
-length_pair n a b = omega (arith, length-append (code n a) (code n b), length-code n a, length-code n b)
-
-pub length-trims : (t s o p c g : ℕ) → length (((code 12 t ++ code 12 s) ++ (code 12 o ++ code 12 p)) ++ (code 12 c ++ code 12 g)) ≡ 72
-length-trims t s o p c g =
-    omega (
-      arith,
-      length-append ((code 12 t ++ code 12 s) ++ (code 12 o ++ code 12 p)) (code 12 c ++ code 12 g),
-      length-append (code 12 t ++ code 12 s) (code 12 o ++ code 12 p),
-      length_pair 12 t s,
-      length_pair 12 o p,
-      length_pair 12 c g,
-    )
 
 -- the flag's code has at least its own bit
 pub length_flag : (flag : Bool) (n : ℕ) → 1 ≤ length (flag_code flag n)
 length_flag flag n = omega (arith, length-append (code 1 (bit flag)) (cond flag (ue_code n) []), length-code 1 (bit flag))
-
-pub flag_on : (n : ℕ) → length (flag_code true n) ≡ 1 + length (ue_code n)
-flag_on n = omega (arith, length-append (code 1 1) (ue_code n), length-code 1 1)
-
-pub flag_off : (n : ℕ) → flag_code false n ≡ code 1 0
-flag_off n = append-nil (code 1 0)
 
 -- ---- the bits of rows of elements
 
@@ -89,27 +76,40 @@ unfolding all_bits
 head_bits_lem true n = rw (append-nil (ue_code n))
 head_bits_lem false n = refl
 
-pub head-length : (flag : Bool) (n : ℕ) → sum_of_widths (head_elements flag n) ≡ length (ue_code 1) + (length (ue_code 0) + length (flag_code flag n))
-head-length flag n =
+pub head_length : (flag : Bool) (n : ℕ) → sum_of_widths (head_elements flag n) ≡ length (ue_code 1) + (length (ue_code 0) + length (flag_code flag n))
+head_length flag n =
     sym (length-all (head_elements flag n)) ∙ ap length (head_bits_lem flag n)
     ∙ omega (arith, length-append (ue_code 1) (ue_code 0 ++ flag_code flag n), length-append (ue_code 0) (flag_code flag n))
 
 -- the fields of each level
-pub level1-code : (a b c : ℕ) → fields_code (codings 1) (pos a ∷ pos b ∷ pos c ∷ []) ≡ (code 12 a ++ code 12 b) ++ code 12 c
+pub level1-code : (a b c : ℕ) → fields_code (codings 1) (pos a ∷ pos b ∷ pos c ∷ []) ≡ flat_map (code 12) (a ∷ b ∷ c ∷ [])
 unfolding fields_code
-level1-code a b c = simp (append_assoc, append-nil)
+level1-code a b c = refl
 
 pub level2-code : (t s o p c g : ℕ) (m : ℤ) → fields_code (codings 2) (pos t ∷ pos s ∷ pos o ∷ pos p ∷ pos c ∷ pos g ∷ m ∷ [])
-    ≡ (((code 12 t ++ code 12 s) ++ (code 12 o ++ code 12 p)) ++ (code 12 c ++ code 12 g)) ++ fields_code (signed 13 ∷ []) (m ∷ [])
+    ≡ flat_map (code 12) (t ∷ s ∷ o ∷ p ∷ c ∷ g ∷ []) ++ code 13 (complement 13 m)
 unfolding fields_code
 level2-code t s o p c g m = simp (append_assoc, append-nil)
 
-pub level5-code : (l r t b : ℕ) → fields_code (codings 5) (pos l ∷ pos r ∷ pos t ∷ pos b ∷ []) ≡ (code 13 l ++ code 13 r) ++ (code 13 t ++ code 13 b)
+pub level5-code : (l r t b : ℕ) → fields_code (codings 5) (pos l ∷ pos r ∷ pos t ∷ pos b ∷ []) ≡ flat_map (code 13) (l ∷ r ∷ t ∷ b ∷ [])
 unfolding fields_code
-level5-code l r t b = simp (append_assoc, append-nil)
+level5-code l r t b = refl
 
--- ms_weight of a block in range
-pub weight_held : (t s o p c g : ℕ) (m : ℤ) → in_range (Level2 t s o p c g m) ≡ true → (holds (signed 13) m ≡ true) × (mag m < 4096)
+-- one item more of a list, and its bits behind those before it
+pub flat_map_next : {A : Type 0} (f : A → List Bool) (xs : List A) (i : ℕ) (d : A) → i < length xs → flat_map f (take (i + 1) xs) ≡ flat_map f (take i xs) ++ f (get_or xs i d)
+flat_map_next f xs i d h = rw (take_more xs i d h) (sym (flat_map_more f [] (take i xs) (get_or xs i d)))
+
+-- a row of fields: its length, and room for one behind those before it
+pub length-row : (n : ℕ) (vs : List ℕ) → length (flat_map (code n) vs) ≡ n * length vs
+length-row n [] = omega arith
+length-row n (v ∷ vs) = omega (arith, length-append (code n v) (flat_map (code n) vs), length-code n v, length-row n vs, mul-suc n (length vs))
+
+pub row_room : (n : ℕ) (vs : List ℕ) (i : ℕ) → i < length vs → length (flat_map (code n) (take i vs)) + n ≤ length (flat_map (code n) vs)
+row_room n vs i h = omega (arith, length-flat_map-take (code n) vs i 0 h, length-code n (get_or vs i 0))
+
+-- ms_weight of a block in range is what its casts to 16 and to 32 bits give
+pub weight_held : (t s o p c g : ℕ) (m : ℤ) → in_range (Level2 t s o p c g m) ≡ true
+    → (holds (signed 13) m ≡ true) × (to_z w32 (of_z w32 (to_z w16 (of_z w16 m))) ≡ m)
 unfolding hold_all
 weight_held t s o p c g m h =
     let h1 = and_right (ltb t 4096) _ h in
@@ -119,11 +119,14 @@ weight_held t s o p c g m h =
     let h5 = and_right (ltb c 4096) _ h4 in
     let h6 = and_right (ltb g 4096) _ h5 in
     let h7 = and_left (holds (signed 13) m) true h6 in
-    (h7, small m h7)
+    (h7, same m (small m h7))
   where
     small : (m : ℤ) → holds (signed 13) m ≡ true → mag m < 4096
     small (pos v) h = ltb-true v 4096 h
     small (negsuc v) h = ltb-true v 4096 h
+
+    same : (m : ℤ) → mag m < 4096 → to_z w32 (of_z w32 (to_z w16 (of_z w16 m))) ≡ m
+    same m h = rw (to_z-of_z w16 m (record { sfits = omega arith })) (to_z-of_z w32 m (record { sfits = omega arith }))
 
 -- the widths of a block's parts
 pub block_parts : (b : Block) → sum_of_widths (block_elements b) ≡ length (ue_code (level (level_of b)).bytes) + 8 + total_width (codings (level_of b)) + padding (level_of b)
@@ -145,9 +148,6 @@ module _ {o₀ o₁ : List ℕ} {p₁ : Pen} (es : List (Element Name)) (so_far 
   here : 8 * p₁.at + p₁.waiting ≡ length (all_bits es)
   here = omega (arith, so_far.place)
 
-  pub byte_room : sum_of_widths (to_byte es) ≤ 8 * length o₀ → RoomForBits o₁ p₁ (to_boundary (8 * p₁.at + p₁.waiting))
-  byte_room h = rw here (omega (arith, so_far.same, widths_to_byte es, length-all es))
-
   pub byte_wrote : {o₂ : List ℕ} {p₂ : Pen} → Wrote o₁ p₁ (replicate (to_boundary (8 * p₁.at + p₁.waiting)) false) o₂ p₂ → Wrote o₀ start_pen (all_bits (to_byte es)) o₂ p₂
   byte_wrote q = rw (bits_to_byte es, ← here) (wrote_then so_far q)
 
@@ -156,8 +156,8 @@ pub all_written : {out out' : List ℕ} {pen : Pen} {bits : List Bool} → Wrote
     → out' ≡ pack bits ++ drop (length (pack bits)) out
 unfolding code bits_of
 all_written {out} {out'} {pen} {bits} w e r h =
-    let k : pen.waiting ≡ 0 = omega (arith, w.place, w.sound.few) in
-    let a : pen.at ≡ length bits / 8 = omega (arith, w.place, w.sound.few) in
+    let k : pen.waiting ≡ 0 = omega (arith, w.place, pen.few) in
+    let a : pen.at ≡ length bits / 8 = omega (arith, w.place, pen.few) in
     let t = take pen.at out' in
     let b : bits_of t ≡ bits = sym (append-nil (bits_of t)) ∙ (rw k at w.up_to) in
     let p : t ≡ pack bits = sym (pack_bits t (bytes_take pen.at out' h)) ∙ ap pack b in

@@ -1,29 +1,34 @@
 -- Laws of the room that a payload needs: the widths of its parts.
 use Prim.Native.Nat.{ℕ, zero, suc, ◌+◌, ◌*◌, ◌/◌, ◌<◌, ◌≤◌}
 use mathlib.Core.Path.{◌≡◌, refl, ap, sym, ◌∙◌}
-use mathlib.Core.List.{List, [], ◌∷◌, ◌++◌, append_assoc, append-nil}
+use mathlib.Core.List.{List, [], ◌∷◌, ◌++◌}
 use mathlib.Core.Bool.{Bool, true, false, cond}
 use native.Mathlib.Omega.{arith}
 use lib.Dec.{eqb}
-use lib.ListN.{length, take, get_or, get_or-map}
-use lib.Seq.{get_or-take}
+use Rattle.std.specs.List.{sum_by, flat_map}
+use Rattle.std.specs.Int.{div_ceil}
+use Rattle.std.proofs.lemmas.List.{take-map}
+use Rattle.std.proofs.lemmas.List.Sums.{sum_by-cons}
+use Rattle.record.specs.declared.Place.{Place}
+use Rattle.tree.specs.Meaning.{all_bits}
+use Rattle.tree.proofs.Meaning.{all_bits-append, length-all}
+use Rattle.writer.specs.Writing.{block_code}
+use mathlib.Core.List.{map}
+use lib.ListN.{length, take, length-take, get_or}
 use Rattle.tree.specs.Coding.{total_width}
 use Rattle.tree.specs.Reading.{to_boundary}
-use Rattle.tree.specs.Meaning.{Element, sum_of_widths, field_elements}
+use Rattle.tree.specs.Meaning.{sum_of_widths, field_elements}
 use Rattle.tree.specs.Codes.{halvings, zeros_of}
 use Rattle.tree.proofs.Elements.{zeros_few}
 use Rattle.tree.proofs.Meaning.{widths_append}
 use Rattle.record.specs.declared.Block.{Block}
 use Rattle.record.specs.declared.Block.TheVariants.{Nothing, Level1, Level2, Level5}
 use Rattle.record.specs.declared.Record.{Record}
-use Rattle.record.specs.Name.{Name}
 use Rattle.record.specs.Level.{level, level1, level2, level5, reserved, level_of}
-use Rattle.record.specs.Blocks.{most_blocks, empty_place, block_in, all_blocks, blocks, in_range}
-use Rattle.record.proofs.Laws.{block_at, take_more, and_left, and_right}
-use Rattle.valid.specs.Valid.{every, valid}
-use Rattle.valid.proofs.Clauses.{valid_means}
-use Rattle.valid.proofs.Made.{length-blocks}
-use Rattle.syntax.specs.Element.{head_elements, open_elements, block_elements, blocks_elements, elements, payload}
+use Rattle.record.specs.Blocks.{most_blocks, empty_place, block_in, all_blocks, blocks}
+use Rattle.record.proofs.Laws.{and_left, and_right}
+use Rattle.valid.specs.Valid.{every}
+use Rattle.syntax.specs.Element.{head_elements, open_elements, block_elements, blocks_elements, elements, payload, bits_of_data}
 use Rattle.syntax.proofs.Largest.{widths_to_byte, payload-length}
 
 -- a level's length and the zeros of its code
@@ -36,56 +41,67 @@ bytes_small l = let h = go (eqb l 1) (eqb l 2) (eqb l 5) in (h, zeros_few 3 (lev
     go false false true = omega arith
     go false false false = omega arith
 
+pub zeros_of_byte : (v : ℕ) → v < 256 → zeros_of v ≤ 8
+zeros_of_byte v h = zeros_few 8 v (omega arith)
+
 -- the bits of a block, by its level
-pub block-width : (b : Block) → sum_of_widths (block_elements b) ≡ 2 * zeros_of (level (level_of b)).bytes + 9 + 8 * (level (level_of b)).bytes
+pub block_width : (b : Block) → sum_of_widths (block_elements b) ≡ 2 * zeros_of (level (level_of b)).bytes + 9 + 8 * (level (level_of b)).bytes
 unfolding sum_of_widths field_elements total_width halvings
-block-width Nothing = refl
-block-width (Level1 min max avg) = refl
-block-width (Level2 t s o p c g m) = refl
-block-width (Level5 l r t b) = refl
+block_width Nothing = refl
+block_width (Level1 min max avg) = refl
+block_width (Level2 t s o p c g m) = refl
+block_width (Level5 l r t b) = refl
 
-blocks-append : (before bs : List Block) → blocks_elements (before ++ bs) ≡ blocks_elements before ++ blocks_elements bs
-unfolding blocks_elements
-blocks-append [] bs = refl
-blocks-append (a ∷ before) bs = ap (λ (l : List (Element Name)). block_elements a ++ l) (blocks-append before bs) ∙ sym (append_assoc (block_elements a) (blocks_elements before) (blocks_elements bs))
+pub block_small : (b : Block) → sum_of_widths (block_elements b) ≤ 103
+block_small b = omega (arith, block_width b, bytes_small (level_of b))
 
--- one block more
-pub elements_more : (r : Record) (j : ℕ) → j < length r.places → blocks_elements (take (j + 1) (all_blocks r)) ≡ blocks_elements (take j (all_blocks r)) ++ block_elements (block_at r j)
-unfolding blocks_elements
-elements_more r j h = rw (take_more r j h) (blocks-append (take j (all_blocks r)) (block_at r j ∷ []) ∙ ap (λ (l : List (Element Name)). blocks_elements (take j (all_blocks r)) ++ l) (append-nil (block_elements (block_at r j))))
-
-pub widths_more : (r : Record) (j : ℕ) → j < length r.places
-    → sum_of_widths (blocks_elements (take (j + 1) (all_blocks r))) ≡ sum_of_widths (blocks_elements (take j (all_blocks r))) + sum_of_widths (block_elements (block_at r j))
-widths_more r j h = rw (elements_more r j h) (widths_append (blocks_elements (take j (all_blocks r))) (block_elements (block_at r j)))
-
--- fewer blocks have no more bits
-pub widths_least : (bs : List Block) (j n : ℕ) → j ≤ n → sum_of_widths (blocks_elements (take j bs)) ≤ sum_of_widths (blocks_elements (take n bs))
+-- the bits of the blocks in places: their widths one by one, and their codes
+widths_are : (ps : List Place) → sum_by (λ (p : Place). sum_of_widths (block_elements p.block)) ps ≡ sum_of_widths (blocks_elements (map block_in ps))
 unfolding blocks_elements sum_of_widths
-widths_least bs zero n h = omega arith
-widths_least [] (suc j) n h = omega arith
-widths_least (b ∷ bs) (suc j) zero h = absurd (omega arith)
-widths_least (b ∷ bs) (suc j) (suc n) h =
-    omega (arith, widths_append (block_elements b) (blocks_elements (take j bs)), widths_append (block_elements b) (blocks_elements (take n bs)), widths_least bs j n (omega arith))
+widths_are [] = refl
+widths_are (p ∷ ps) =
+    sum_by-cons (λ (p : Place). sum_of_widths (block_elements p.block)) p ps
+    ∙ omega (arith, widths_are ps, widths_append (block_elements p.block) (blocks_elements (map block_in ps)))
 
--- each block of a valid record is in range
-every_at : (test : Block → Bool) (bs : List Block) (j : ℕ) → j < length bs → every test bs ≡ true → test (get_or bs j Nothing) ≡ true
+widths_small : (bs : List Block) → sum_of_widths (blocks_elements bs) ≤ 103 * length bs
+unfolding blocks_elements sum_of_widths
+widths_small [] = omega arith
+widths_small (b ∷ bs) = omega (arith, widths_small bs, block_small b, widths_append (block_elements b) (blocks_elements bs))
+
+pub blocks_width : (r : Record) → sum_by (λ (p : Place). sum_of_widths (block_elements p.block)) (take r.count r.places) ≡ sum_of_widths (blocks_elements (blocks r))
+blocks_width r = rw (take-map block_in r.count r.places) (widths_are (take r.count r.places))
+
+pub blocks_small : (r : Record) → r.count ≤ most_blocks → sum_of_widths (blocks_elements (blocks r)) ≤ 1854
+blocks_small r h = omega (arith, widths_small (blocks r), length-take r.count (all_blocks r))
+
+codes_are : (ps : List Place) → flat_map block_code ps ≡ all_bits (blocks_elements (map block_in ps))
+unfolding blocks_elements all_bits
+codes_are [] = refl
+codes_are (p ∷ ps) = ap (λ (l : List Bool). block_code p ++ l) (codes_are ps) ∙ sym (all_bits-append (block_elements p.block) (blocks_elements (map block_in ps)))
+
+pub blocks_code : (r : Record) → flat_map block_code (take r.count r.places) ≡ all_bits (blocks_elements (blocks r))
+blocks_code r = rw (take-map block_in r.count r.places) (codes_are (take r.count r.places))
+
+-- where a payload has room, so has what stands before the blocks, and behind it the blocks
+pub data_room : (r : Record) (n : ℕ) → bits_of_data r ≤ n → length (all_bits (open_elements r.refresh r.count)) + length (flat_map block_code (take r.count r.places)) ≤ n
+unfolding elements
+data_room r n h =
+    let es = open_elements r.refresh r.count in
+    let bs = blocks_elements (blocks r) in
+    omega (arith, ap length (blocks_code r), length-all es, length-all bs, widths_to_byte (es ++ bs), widths_append es bs)
+
+-- each block in range
+pub every_at : (test : Block → Bool) (ps : List Place) (j : ℕ) → j < length ps → every test (map block_in ps) ≡ true → test (get_or ps j empty_place).block ≡ true
 unfolding every
 every_at test [] j h e = absurd (omega arith)
-every_at test (b ∷ bs) zero h e = and_left (test b) (every test bs) e
-every_at test (b ∷ bs) (suc j) h e = every_at test bs j (omega arith) (and_right (test b) (every test bs) e)
-
-pub in_range_at : (r : Record) (j : ℕ) → valid r ≡ true → length r.places ≡ most_blocks → j < r.count → in_range (block_at r j) ≡ true
-in_range_at r j v l h =
-    let c = valid_means r v in
-    let k : j < length (blocks r) = omega (arith, length-blocks r l c.few) in
-    let e = every_at in_range (blocks r) j k c.ranges in
-    rw (get_or-take r.count (all_blocks r) j Nothing h, get_or-map block_in r.places j empty_place) at e
+every_at test (p ∷ ps) zero h e = and_left (test p.block) (every test (map block_in ps)) e
+every_at test (p ∷ ps) (suc j) h e = every_at test ps j (omega arith) (and_right (test p.block) (every test (map block_in ps)) e)
 
 -- the bits before the blocks
-pub head-width : (flag : Bool) (n : ℕ) → sum_of_widths (head_elements flag n) ≡ cond flag (2 * zeros_of n + 6) 5
+pub head_width : (flag : Bool) (n : ℕ) → sum_of_widths (head_elements flag n) ≡ cond flag (2 * zeros_of n + 6) 5
 unfolding sum_of_widths halvings
-head-width true n = omega arith
-head-width false n = refl
+head_width true n = omega arith
+head_width false n = refl
 
 pub open_width : (flag : Bool) (n w : ℕ) (b : Bool) → eqb n 0 ≡ b → w ≡ sum_of_widths (head_elements flag n) → sum_of_widths (open_elements flag n) ≡ cond b w (w + to_boundary w)
 open_width flag n w true e h = rw (e, h)
@@ -99,9 +115,10 @@ open_least flag n = go (eqb n 0) refl
     go false e = omega (arith, open_width flag n (sum_of_widths (head_elements flag n)) false e refl)
 
 -- the bytes of a payload
-pub needed : (r : Record) (a b : ℕ) → a ≡ sum_of_widths (open_elements r.refresh r.count) → b ≡ sum_of_widths (blocks_elements (blocks r)) → (a + b + to_boundary (a + b)) / 8 ≡ length (payload r)
+pub needed : (r : Record) (a b : ℕ) → a ≡ sum_of_widths (open_elements r.refresh r.count) → b ≡ sum_of_widths (blocks_elements (blocks r)) → div_ceil (a + b) 8 ≡ length (payload r)
 unfolding elements
 needed r a b e f =
     let es = open_elements r.refresh r.count in
     let s : sum_of_widths (es ++ blocks_elements (blocks r)) ≡ a + b = widths_append es (blocks_elements (blocks r)) ∙ rw (e, f) in
-    sym (payload-length r ∙ ap (λ (n : ℕ). n / 8) (widths_to_byte (es ++ blocks_elements (blocks r)) ∙ rw s))
+    let p : length (payload r) ≡ (a + b + to_boundary (a + b)) / 8 = payload-length r ∙ ap (λ (n : ℕ). n / 8) (widths_to_byte (es ++ blocks_elements (blocks r)) ∙ rw s) in
+    omega (arith, p)

@@ -14,7 +14,7 @@ pub returns-then-s-i : goal.returns-then-s-i
 unfolding value_from
 returns-then-s-i c =
     let a = c.args in
-    rw c.refuse_lead.ensures (sym (ap number_of (ue_end a.most a.at (drop a.at (bits_of a.s.now)) 0 (omega (arith, length_rest a.s.now a.at)) (omega arith) refl)))
+    rw c.at.ensures (sym (ap number_of (ue_end a.most a.at (drop a.at (bits_of a.s.now)) 0 (omega (arith, length_rest a.s.now a.at)) (omega arith) refl)))
 
 pub overflow_cast-v : goal.overflow_cast-v
 overflow_cast-v c = omega (arith, c.type_inv.s (c.args.at / 8))
@@ -32,14 +32,14 @@ returns-then-most-have c =
     let a = c.args in
     let l = c.loop-v in
     let z : value (take l.have (drop a.at (bits_of a.s.now))) ≡ 0 = omega arith in
-    rw c.refuse_lead-then-most-have.ensures (sym (ap number_of (ue_overlong a.most a.at (drop a.at (bits_of a.s.now)) l.have (omega arith) (omega (arith, length_rest a.s.now a.at)) z)))
+    rw c.at-then-most-have.ensures (sym (ap number_of (ue_overlong a.most a.at (drop a.at (bits_of a.s.now)) l.have (omega arith) (omega (arith, length_rest a.s.now a.at)) z)))
 
 pub returns-then-s-i-2 : goal.returns-then-s-i-2
 returns-then-s-i-2 c =
     let a = c.args in
     let l = c.loop-v in
     let z : value (take l.have (drop a.at (bits_of a.s.now))) ≡ 0 = omega arith in
-    rw c.refuse_lead-then-s-i-2.ensures (sym (ap number_of (ue_end a.most a.at (drop a.at (bits_of a.s.now)) l.have (omega (arith, length_rest a.s.now a.at)) (omega arith) z)))
+    rw c.at-then-s-i-2.ensures (sym (ap number_of (ue_end a.most a.at (drop a.at (bits_of a.s.now)) l.have (omega (arith, length_rest a.s.now a.at)) (omega arith) z)))
 
 pub overflow_cast-v-in-loop-v : goal.overflow_cast-v-in-loop-v
 overflow_cast-v-in-loop-v c = omega (arith, c.type_inv.s (c.loop-v.i + 1))

@@ -7,8 +7,9 @@ use lib.ListN.{drop}
 use Rattle.tree.specs.Bits.{bits_of, value_from}
 use Rattle.tree.specs.Syntax.{read, zero_bits}
 use Rattle.tree.proofs.Bits.{length_rest}
-use Rattle.refusals.specs.Refusals.{past_end}
-use Rattle.bits.specs.Answer.{refused_number, span_of}
+use Rattle.std.specs.Prelude.{Err}
+use Rattle.refusals.specs.declared.Refusal.TheVariants.{PastEnd}
+use Rattle.bits.specs.Answer.{unread, span_of}
 use Rattle.bits.proofs.Reading.{zeros_end}
 use Rattle.bits.proofs.Zeros.{checked_none, checked_broken, checked_end, checked_more, checked_last_broken, checked_all}
 use Rattle.bits.proofs.read_zeros.Goals as goal
@@ -21,7 +22,7 @@ pub returns-then-s-i : goal.returns-then-s-i
 unfolding value_from
 returns-then-s-i c =
     let a = c.args in
-    c.refuse.ensures ∙ ap (refused_number past_end) (sym (add-zero a.at))
+    ap Err c.at.ensures ∙ ap (λ (w : ℕ). Err (unread PastEnd w)) (sym (add-zero a.at))
     ∙ sym (ap span_of (zeros_end a.n a.at (drop a.at (bits_of a.s.now)) 0 (omega (arith, length_rest a.s.now a.at)) (omega arith) refl))
 
 pub overflow_cast-v : goal.overflow_cast-v
@@ -43,19 +44,16 @@ returns-then-v-ne0 c =
     let a = c.args in
     let l = c.loop-have in
     let r = c.refuse_one.ensures in
-    r.3 ∙ checked_broken a.s.now (λ j. (c.type_inv.s j).fits) a.at a.n l.i l.have l.v l.left l.invariant (omega arith) (λ e. omega arith) r.0 r.1 r.2
+    ap Err r.3 ∙ checked_broken a.s.now (λ j. (c.type_inv.s j).fits) a.at a.n l.i l.have l.v l.left l.invariant (omega arith) (λ e. omega arith) r.0 r.1 r.2
 
 pub overflow_mul-i : goal.overflow_mul-i
 overflow_mul-i c = let x = c.loop-have.invariant in omega (arith, x.ends, x.few)
-
-pub refuse-requires-then-s-i-2 : goal.refuse-requires-then-s-i-2
-refuse-requires-then-s-i-2 c = let x = c.loop-have.invariant in omega (arith, x.ends, x.few)
 
 pub returns-then-s-i-2 : goal.returns-then-s-i-2
 returns-then-s-i-2 c =
     let a = c.args in
     let l = c.loop-have in
-    c.refuse-then-s-i-2.ensures ∙ checked_end a.s.now (λ j. (c.type_inv.s j).fits) a.at a.n l.i l.have l.v l.left l.invariant (omega arith) (omega arith) (omega arith)
+    ap Err c.at-then-s-i-2.ensures ∙ checked_end a.s.now (λ j. (c.type_inv.s j).fits) a.at a.n l.i l.have l.v l.left l.invariant (omega arith) (omega arith) (omega arith)
 
 pub overflow_cast-v-in-loop-have : goal.overflow_cast-v-in-loop-have
 overflow_cast-v-in-loop-have c = omega (arith, c.type_inv.s (c.loop-have.i + 1))
@@ -81,7 +79,7 @@ returns-then-v-left-ne0 c =
     let a = c.args in
     let l = c.loop-have in
     let r = c.refuse_one-then-v-left-ne0.ensures in
-    r.3 ∙ checked_last_broken a.s.now (λ j. (c.type_inv.s j).fits) a.at a.n l.i l.have l.v l.left l.invariant (omega arith) c.if-v-left-ne0.true r.0 r.1 r.2
+    ap Err r.3 ∙ checked_last_broken a.s.now (λ j. (c.type_inv.s j).fits) a.at a.n l.i l.have l.v l.left l.invariant (omega arith) c.if-v-left-ne0.true r.0 r.1 r.2
 
 pub returns : goal.returns
 returns c =

@@ -1,34 +1,23 @@
 -- `block::read_body` meets its contract: by the level, the length is checked, then the content.
-use mathlib.Core.Path.{◌∙◌, sym}
-use lib.ListN.{drop}
-use Rattle.tree.specs.Bits.{bits_of}
-use Rattle.block.proofs.Laws.{body-length, body_is, body_too_long, body-reserved}
+use mathlib.Core.Path.{◌≡◌}
+use mathlib.Core.Bool.{true, false}
+use borrow.Author.Tests.{lt-leb, le-leb}
+use Rattle.std.proofs.Common.{rules}
+use Rattle.block.proofs.Laws.{is_length, body_no, body_is, body-reserved}
 use Rattle.block.proofs.read_body.Goals as goal
 
-pub returns-then-fits : goal.returns-then-fits
-returns-then-fits c =
-    let b = c in
-    let a = b.args in
-    c.read_content.ensures
-    ∙ body_is a.start a.size a.level a.at (drop a.at (bits_of a.s.now)) (sym b.is_known-known.ensures ∙ c.if-known.true) (c.if-fits.true ∙ b.bytes_of-bytes.ensures)
+pub returns-then-not-fits : goal.returns-then-not-fits
+returns-then-not-fits c = search (rules, body_no)
 
-pub returns-else-fits : goal.returns-else-fits
-returns-else-fits c =
-    let b = c in
-    let a = b.args in
-    c.refuse.ensures
-    ∙ body-length a.start a.size a.level a.at (drop a.at (bits_of a.s.now)) (sym b.is_known-known.ensures ∙ c.if-known.true) (λ e. c.if-fits.false (e ∙ sym b.bytes_of-bytes.ensures))
+pub returns-then-is_known : goal.returns-then-is_known
+returns-then-is_known c = search (rules, body_is)
 
-pub returns-then-size-le-MOST_RESERVED : goal.returns-then-size-le-MOST_RESERVED
-returns-then-size-le-MOST_RESERVED c =
-    let b = c in
-    let a = b.args in
-    c.skip.ensures a.level
-    ∙ body-reserved a.start a.size a.level a.at (drop a.at (bits_of a.s.now)) (sym b.is_known-known.ensures ∙ c.if-known.false) c.if-size-le-MOST_RESERVED.true
+pub returns-then-size-gt-MOST_RESERVED : goal.returns-then-size-gt-MOST_RESERVED
+returns-then-size-gt-MOST_RESERVED c =
+    let long : is_length c.args.size c.args.level ≡ false = search (rules, lt-leb) in
+    search (rules, body_no)
 
-pub returns-else-size-le-MOST_RESERVED : goal.returns-else-size-le-MOST_RESERVED
-returns-else-size-le-MOST_RESERVED c =
-    let b = c in
-    let a = b.args in
-    c.refuse-else-size-le-MOST_RESERVED.ensures
-    ∙ body_too_long a.start a.size a.level a.at (drop a.at (bits_of a.s.now)) (sym b.is_known-known.ensures ∙ c.if-known.false) c.if-size-le-MOST_RESERVED.false
+pub returns : goal.returns
+returns c =
+    let own : is_length c.args.size c.args.level ≡ true = search (rules, le-leb) in
+    search (rules, body-reserved)

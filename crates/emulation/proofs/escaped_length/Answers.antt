@@ -1,45 +1,33 @@
--- `emulation::escaped_length` meets its contract: the bytes counted and those to come from place i on are all of them.
-use Prim.Native.Nat.{◌+◌, ◌*◌, ◌≤◌, ◌<◌}
-use mathlib.Core.Path.{◌≡◌}
-use mathlib.Core.Bool.{true, false}
-use native.Mathlib.Omega.{arith}
-use lib.ListN.{length, get_or, drop, drop_of_length-le}
-use Rattle.emulation.specs.Emulation.{escaped, escaped_behind, zeros_behind}
-use Rattle.emulation.proofs.Loops.{escaped_step, one_more_zero}
+-- `emulation::escaped_length` meets its contract: the bytes counted and those to come from the next byte on are all of them.
+use Rattle.std.proofs.Common.{◌≡◌, ℕ, ◌+◌, ◌<◌, ◌≤◌, List, [], length, get_or, Bool, true, false, arith}
+use lib.ListN.{drop_of_length-le}
+use mir.Val.{bool_byte}
+use Rattle.emulation.specs.Emulation.{needs_emulation, put_before, escaped_behind}
+use Rattle.emulation.proofs.Loops.{escaped_step, few_zeros}
 use Rattle.emulation.proofs.escaped_length.Goals as goal
-use Rattle.emulation.proofs.escaped_length.Goals.{Joined-zeros-b, then-zeros-b, else-zeros-b}
 
-pub loop-i-init : goal.loop-i-init
-loop-i-init c = (omega arith, omega arith, omega arith, omega arith)
+-- the emulation byte counts one
+length_put : (put : Bool) (s : List ℕ) → (length (put_before put s) ≡ bool_byte put + length s) × (bool_byte put ≤ 1)
+length_put true s = (omega arith, omega arith)
+length_put false s = (omega arith, omega arith)
 
--- behind the emulation byte, or where none is needed, the byte itself comes
-joined : (c : Joined-zeros-b) →
-    let i = c.loop-i.i in
+pub loop-b-preserved : goal.loop-b-preserved
+loop-b-preserved c =
+    let l = c.loop-b in
     let s = c.args.s.now in
-    (c.if-zeros-b.zeros ≤ i) × (c.if-zeros-b.n ≤ 2 * i + 1) × (c.if-zeros-b.n + 1 + length (escaped_behind (zeros_behind c.if-zeros-b.zeros (get_or s i 0)) (drop (i + 1) s)) ≡ length (escaped s))
-joined c =
-    let l = c.loop-i in
-    let s = c.args.s.now in
-    let h : l.i < length s = omega arith in
-    elim c.if-zeros-b.branch [
-      | then-zeros-b w ↦ (omega arith, omega arith, rw (w.zeros-is, w.n-is) (let f = rw (escaped_step s l.i h l.zeros true w.if-zeros-b.true) at l.invariant.3 in omega arith))
-      | else-zeros-b w ↦ (omega arith, omega arith, rw (w.zeros-is, w.n-is) (let f = rw (escaped_step s l.i h l.zeros false w.if-zeros-b.false) at l.invariant.3 in omega arith))
-    ]
-
-pub overflow_add-n-in-loop-i : goal.overflow_add-n-in-loop-i
-overflow_add-n-in-loop-i c = let j = joined (goal.at.overflow_add-n-in-loop-i c).Joined-zeros-b in omega arith
-
-pub loop-i-preserved : goal.loop-i-preserved
-loop-i-preserved c =
-    let i = c.loop-i.i in
-    let s = c.args.s.now in
-    let j = joined (goal.at.loop-i-preserved c).Joined-zeros-b in
-    (omega (arith, one_more_zero c.if-zeros-b.zeros (get_or s i 0)), omega arith, omega arith, rw c.zeros_behind-zeros.ensures j.2)
+    let b = get_or s l.b-index 0 in
+    let e = c.escape-put in
+    let h : l.b-index < length s = omega arith in
+    let p = length_put e.result.0 [] in
+    record {
+      few = omega (arith, e.ensures.zeros, few_zeros l.zeros (needs_emulation l.zeros b) b);
+      short = omega (arith, c.from.ensures);
+      counted =
+          let f = rw (escaped_step s l.b-index h l.zeros e.result.0 e.result.1 e.ensures.put e.ensures.zeros, (length_put e.result.0 _).0) at l.invariant.counted in
+          omega (arith, c.from.ensures);
+    }
 
 pub returns : goal.returns
 unfolding escaped_behind
 returns c =
-    let l = c.loop-i in
-    let s = c.args.s.now in
-    let e : length s ≤ l.i = omega arith in
-    let f = rw (drop_of_length-le s e) at l.invariant.3 in omega arith
+    let f = rw (drop_of_length-le c.args.s.now c.loop-b-test.false) at c.loop-b.invariant.counted in omega arith

@@ -1,34 +1,28 @@
--- `emulation::has_forbidden` meets its contract: what stands from place i on is what stands anywhere.
-use Prim.Native.Nat.{◌≤◌}
-use mathlib.Core.Path.{◌≡◌, refl, sym, ◌∙◌}
-use mathlib.Core.Bool.{true, false}
-use native.Mathlib.Omega.{arith}
-use lib.ListN.{length, drop, drop_of_length-le}
-use Rattle.emulation.specs.Emulation.{forbidden, begins_forbidden}
+-- `emulation::has_forbidden` meets its contract: at each place the bytes from there on are looked at.
+use Rattle.std.proofs.Common.{rules, ◌≡◌, refl, ◌∙◌, ℕ, zero, suc, ◌+◌, ◌-◌, ◌≤◌, ◌<◌, List, length, take, take_all, drop, length-drop, tests, arith}
+use lib.ListN.{drop_of_length-le}
+use Rattle.std.specs.List.{list_any, range_with_len}
+use Rattle.std.proofs.lemmas.Iterator.{YieldsList-from_range}
+use Rattle.std.proofs.lemmas.Iterator.Search.{any_from_yields_List}
+use Rattle.emulation.specs.Emulation.{begins_forbidden, forbidden}
 use Rattle.emulation.proofs.Loops.{forbidden_step}
 use Rattle.emulation.proofs.has_forbidden.Goals as goal
 
-pub loop-i-init : goal.loop-i-init
-loop-i-init c = (omega arith, refl)
+-- the bytes from place i on, as the code takes them
+abbrev from_place : List ℕ → ℕ → List ℕ
+from_place s i = take (length s - i) (drop i s)
 
-pub returns-then-forbidden_at : goal.returns-then-forbidden_at
-returns-then-forbidden_at c =
-    let l = c.loop-i in
-    let s = c.args.s.now in
-    let f : begins_forbidden (drop l.i s) ≡ true = sym c.forbidden_at.ensures ∙ c.if-forbidden_at.true in
-    sym (l.invariant.1 ∙ forbidden_step s l.i (omega arith) ∙ rw f refl)
-
-pub loop-i-preserved : goal.loop-i-preserved
-loop-i-preserved c =
-    let l = c.loop-i in
-    let s = c.args.s.now in
-    let f : begins_forbidden (drop l.i s) ≡ false = sym c.forbidden_at.ensures ∙ c.if-forbidden_at.false in
-    (omega arith, l.invariant.1 ∙ forbidden_step s l.i (omega arith) ∙ rw f refl)
+-- they begin with bytes that may not stand at one of the places from a on
+any_from : (s : List ℕ) (a n : ℕ) → a + n ≡ length s → list_any (λ i. begins_forbidden (from_place s i)) (range_with_len a n) ≡ forbidden (drop a s)
+unfolding forbidden
+any_from s a zero e = let h : length s ≤ a = omega arith in rw (drop_of_length-le s h)
+any_from s a (suc n) e =
+    let h : a < length s = omega arith in
+    let k : length (drop a s) ≤ length s - a = omega (arith, length-drop a s) in
+    rw (forbidden_step s a h, any_from s (a + 1) n (omega arith), take_all (length s - a) (drop a s) k)
 
 pub returns : goal.returns
-unfolding forbidden
 returns c =
-    let l = c.loop-i in
     let s = c.args.s.now in
-    let e : length s ≤ l.i = omega arith in
-    sym (l.invariant.1 ∙ rw (drop_of_length-le s e) refl)
+    any_from_yields_List (λ i. begins_forbidden (from_place s i)) _ _ _ c.any.ensures.ran (YieldsList-from_range 0 (length s) (length s) refl (omega arith)) (λ x b q k. search (rules, tests))
+    ∙ any_from s 0 (length s) (omega arith)

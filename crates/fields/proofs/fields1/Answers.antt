@@ -1,20 +1,20 @@
 -- `fields::fields1` meets its contract: the fields are there, or a bit is missing.
-use mathlib.Core.Path.{refl, ◌∙◌}
+use mathlib.Core.Path.{refl}
 use native.Mathlib.Omega.{arith}
+use Rattle.std.proofs.lemmas.Result.{err_from_is_err_and}
 use Rattle.tree.specs.Coding.{total_width}
 use Rattle.fields.proofs.Laws.{fields_is, fields_refused}
 use Rattle.fields.proofs.fields1.Goals as goal
 
-pub returns-then-s-at : goal.returns-then-s-at
+pub returns-in_err-whole : goal.returns-in_err-whole
 unfolding total_width
-returns-then-s-at c =
-    let whole = c in
-    let a = whole.args in
-    c.refuse_cut.ensures ∙ rw (c.name1.ensures, whole.whole_fields-k.ensures.0) (fields_refused 1 a.s.now a.at 12 (omega arith) _ _ refl (refl, (refl, tt)) (omega arith) (omega arith))
+returns-in_err-whole c =
+    let p = err_from_is_err_and c.from_residual.result c.from_residual.ensures.1 in
+    let cut = c.in_err-whole.ensures.cut_off in
+    rw (p.1, p.2, cut.1) (fields_refused 1 c.args.s.now c.args.at 12 (omega arith) _ _ refl (refl, (refl, tt)) (omega arith) cut.0)
 
 pub returns : goal.returns
 unfolding total_width
 returns c =
-    let word = c in
-    let a = word.args in
-    rw (c.field_in-min_pq.ensures, c.field_in-max_pq.ensures, c.field_in-avg_pq.ensures, word.word-word.ensures) (fields_is 1 a.s.now a.at 3 (omega arith))
+    let there = c.in_ok-whole.ensures.there in
+    rw (c.field_in-min_pq.ensures, c.field_in-max_pq.ensures, c.field_in-avg_pq.ensures, c.word-word.ensures) (fields_is 1 c.args.s.now c.args.at 3 (omega arith))

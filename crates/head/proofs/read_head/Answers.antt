@@ -1,29 +1,26 @@
 -- `head::read_head` meets its contract: what stands before the blocks, and its padding.
-use mathlib.Core.Path.{◌≡◌, ◌∙◌, sym}
+use Prim.Native.Nat.{◌≤◌}
 use native.Mathlib.Omega.{arith}
-use Rattle.tree.specs.Bits.{bits_of}
-use Rattle.tree.specs.Reading.{ok}
-use Rattle.tree.specs.Syntax.{read}
-use Rattle.syntax.specs.Data.{announced, head}
-use Rattle.head.proofs.Laws.{opening_ok, head_short, head_no, head_on}
+use Rattle.std.proofs.Common.{rules}
+use Rattle.head.proofs.Laws.{head_no, head_few, open_no, open_few, open_is}
 use Rattle.head.proofs.read_head.Goals as goal
 
-pub read_padding-requires : goal.read_padding-requires
-read_padding-requires c =
-    let first : read head 0 (bits_of c.args.s.now) ≡ ok (announced c.in-Is.refresh c.in-Is.count) c.in-Is.width =
-    let r = c.in-Is in
-    opening_ok (read head 0 (bits_of c.args.s.now)) r.refresh r.count r.width (sym r.is ∙ c.read_identifier.ensures) in
-    let r = c.in-Is in
-    omega (arith, head_short (bits_of c.args.s.now) (announced r.refresh r.count) r.width (first))
+pub returns-in_err-head : goal.returns-in_err-head
+returns-in_err-head c = search (rules, head_no)
 
-pub returns-in-Refused : goal.returns-in-Refused
-returns-in-Refused c = head_no (bits_of c.args.s.now) c.in-Refused.number c.in-Refused.element c.in-Refused.offset (sym c.in-Refused.is ∙ c.read_identifier.ensures)
+pub read_zeros-gap-requires : goal.read_zeros-gap-requires
+read_zeros-gap-requires c =
+    let few : c.in_ok-head.head.width ≤ 20 = search (rules, head_few) in
+    omega arith
 
-pub returns-in-Is : goal.returns-in-Is
-returns-in-Is c =
-    let first : read head 0 (bits_of c.args.s.now) ≡ ok (announced c.in-Is.refresh c.in-Is.count) c.in-Is.width =
-    let r = c.in-Is in
-    opening_ok (read head 0 (bits_of c.args.s.now)) r.refresh r.count r.width (sym r.is ∙ c.read_identifier.ensures) in
-    let d = c in
-    let r = d.in-Is in
-    c.read_padding.ensures ∙ head_on (bits_of d.args.s.now) (announced r.refresh r.count) r.width (first)
+pub returns-in_err-zeros : goal.returns-in_err-zeros
+returns-in_err-zeros c = search (rules, open_no)
+
+pub overflow_add-result : goal.overflow_add-result
+overflow_add-result c =
+    let few : c.in_ok-head.head.width ≤ 20 = search (rules, head_few) in
+    let zeros : c.in_ok-zeros.zeros.width ≤ 7 = search (rules, open_few) in
+    omega arith
+
+pub returns : goal.returns
+returns c = search (rules, open_is)

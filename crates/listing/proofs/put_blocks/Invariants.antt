@@ -1,10 +1,7 @@
-use Prim.Native.Nat.{◌-◌, ◌≤◌}
-use Rattle.text.specs.Typing.{Typed}
+use Rattle.text.specs.Page.{TypedOn}
 use Rattle.listing.proofs.Blocks.{before}
 use Rattle.listing.proofs.put_blocks.Given as goal
 
-abbrev pub invariant-loop-j : goal.invariant-loop-j
-invariant-loop-j l = (l.j ≤ l.n) × Typed l.initial.out l.at (before l.r l.j) l.out l.p
-
-abbrev pub decreases-loop-j : goal.decreases-loop-j
-decreases-loop-j l = l.n - l.j
+-- the blocks so far are typed
+abbrev pub invariant-loop-place : goal.invariant-loop-place
+invariant-loop-place l = TypedOn l.initial.page (before l.fn.r l.place-index) l.page

@@ -1,16 +1,24 @@
--- `messages::read_message` meets its contract: the type is read, and what is behind it.
-use mathlib.Core.Path.{sym, ◌∙◌}
-use Rattle.messages.proofs.Reading.{message_past, message-typed}
+-- `messages::read_message` meets its contract.
+use Rattle.messages.proofs.Reading.{no_type, no_size, cut, whole}
 use Rattle.messages.proofs.read_message.Goals as goal
 
-pub returns-in-PastEnd : goal.returns-in-PastEnd
-returns-in-PastEnd c =
-    let a = c.args in
-    message_past a.s.now a.at (cc)
+pub returns-in_err-kind : goal.returns-in_err-kind
+returns-in_err-kind c = rw c.from_residual.ensures (no_type c.args.s.now c.in_err-kind.ensures)
 
-pub returns-in-Is : goal.returns-in-Is
-returns-in-Is c =
-    let d = c in
-    let a = d.args in
-    let g = d.in-Is in
-    c.read_size.ensures ∙ message-typed a.s.now a.at g.kind g.next (sym g.is ∙ d.read_number.ensures)
+pub returns-in_err-size : goal.returns-in_err-size
+returns-in_err-size c =
+    let k = c.in_ok-kind in
+    rw c.from_residual-in_err-size.ensures (no_size c.args.s.now k.kind k.sized.now k.ensures c.in_err-size.ensures)
+
+pub returns-in_err-content : goal.returns-in_err-content
+returns-in_err-content c =
+    let k = c.in_ok-kind in
+    let n = c.in_ok-size in
+    rw c.from_residual-in_err-content.ensures (cut c.args.s.now k.kind k.sized.now k.ensures n.size n.left.now n.ensures c.in_err-content.ensures.cases)
+
+pub returns : goal.returns
+returns c =
+    let k = c.in_ok-kind in
+    let n = c.in_ok-size in
+    let h = c.in_ok-content.ensures.cases in
+    rw (h.1, h.2) (whole c.args.s.now k.kind k.sized.now k.ensures n.size n.left.now n.ensures h.0)

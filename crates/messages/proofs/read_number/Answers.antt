@@ -1,27 +1,21 @@
--- `messages::read_number` meets its contract: the answer from here, with what is counted, is the answer from the start.
-use mathlib.Core.Path.{sym, ◌∙◌}
-use native.Mathlib.Omega.{arith}
-use Rattle.messages.proofs.Reading.{number_first, number_past, number_last, number_more}
+-- `messages::read_number` meets its contract.
+use Rattle.std.proofs.Common.{rules, ◌≡◌, sym, ◌∙◌, ◌+◌, ◌-◌, ◌≤◌, length, take_all, drop, length-drop, tests, arith}
+use Rattle.std.proofs.lemmas.Iterator.{YieldsList-from_slice}
+use Rattle.std.proofs.lemmas.Iterator.Search.{position_from_yields_List}
+use Rattle.messages.proofs.Reading.{is_last, last_place, number_none, number_some}
 use Rattle.messages.proofs.read_number.Goals as goal
 
-pub loop-at-init : goal.loop-at-init
-loop-at-init c = (omega arith, number_first c.args.s.now c.args.from)
-
-pub overflow_cast-result : goal.overflow_cast-result
-overflow_cast-result c = omega (arith, c.type_inv.s c.loop-at.at)
-
-pub overflow_add-result : goal.overflow_add-result
-overflow_add-result c = omega (arith, c.type_inv.s c.loop-at.at)
-
-pub returns-then-b : goal.returns-then-b
-returns-then-b c =
-    let l = c.loop-at in
-    number_last c.args.s.now l.sum l.at (omega arith) c.if-b.true ∙ l.invariant.1
-
-pub loop-at-preserved : goal.loop-at-preserved
-loop-at-preserved c =
-    let l = c.loop-at in
-    (omega arith, sym (number_more c.args.s.now l.sum l.at (omega arith) c.if-b.false) ∙ l.invariant.1)
+pub returns-in_err-n : goal.returns-in_err-n
+returns-in_err-n c =
+    let s = c.args.s.now in
+    let p : c.position.result ≡ last_place s = position_from_yields_List is_last _ _ _ c.position.ensures.ran (YieldsList-from_slice s cc) (λ x b q k. search (rules, tests)) in
+    let e = number_none s (sym c.in_err-n.was ∙ p) in
+    rw c.from_residual.ensures e
 
 pub returns : goal.returns
-returns c = number_past c.args.s.now c.loop-at.sum c.loop-at.at (omega arith) ∙ c.loop-at.invariant.1
+returns c =
+    let s = c.args.s.now in
+    let p : c.position.result ≡ last_place s = position_from_yields_List is_last _ _ _ c.position.ensures.ran (YieldsList-from_slice s cc) (λ x b q k. search (rules, tests)) in
+    let e = number_some s c.in_ok-n.n (sym c.in_ok-n.was ∙ p) in
+    let h : length (drop (c.in_ok-n.n + 1) s) ≤ length s - (c.in_ok-n.n + 1) = omega (arith, length-drop (c.in_ok-n.n + 1) s) in
+    rw (c.from.ensures, take_all (length s - (c.in_ok-n.n + 1)) (drop (c.in_ok-n.n + 1) s) h) e.1

@@ -7,13 +7,10 @@ use Rattle.head.proofs.Laws.{opening_ok, opening_no}
 use Rattle.reader.proofs.Laws.{told_on, no_head}
 use Rattle.reader.proofs.read_data.Goals as goal
 
-pub refused-requires : goal.refused-requires
-refused-requires c =
+pub refused_data-requires : goal.refused_data-requires
+refused_data-requires c =
     let s = bits_of c.args.input.now in
-    let g = c.in-Refused in
-    told_on s (read opening 0 s) g.number g.element g.offset (opening_no (read opening 0 s) g.number g.element g.offset (sym g.is ∙ c.read_head.ensures)) (no_head s)
+    told_on s (read opening 0 s) c.in-Err.why (opening_no (read opening 0 s) c.in-Err.why (sym c.in-Err.is ∙ c.read_head.ensures)) (no_head s)
 
 pub read_blocks-requires : goal.read_blocks-requires
-read_blocks-requires c =
-    let g = c.in-Is in
-    opening_ok (read opening 0 (bits_of c.args.input.now)) g.refresh g.count g.width (sym g.is ∙ c.read_head.ensures)
+read_blocks-requires c = opening_ok (read opening 0 (bits_of c.args.input.now)) c.in-Ok.opening (sym c.in-Ok.is ∙ c.read_head.ensures)

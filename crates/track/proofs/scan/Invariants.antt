@@ -1,12 +1,8 @@
 use mathlib.Core.Path.{◌≡◌}
-use Prim.Native.Nat.{◌-◌, ◌≤◌}
 use lib.ListN.{length}
 use Rattle.plan.specs.Scanning.{begun}
 use Rattle.track.specs.Inner.{scanned_to}
 use Rattle.track.proofs.scan.Given as goal
 
 abbrev pub invariant-loop-i : goal.invariant-loop-i
-invariant-loop-i l = record { within : l.i ≤ l.extent; seen : l.seen ≡ scanned_to (begun (length l.table) l.count) l.table l.i }
-
-abbrev pub decreases-loop-i : goal.decreases-loop-i
-decreases-loop-i l = l.extent - l.i
+invariant-loop-i l = l.seen ≡ scanned_to (begun (length l.table) l.count) l.table l.i

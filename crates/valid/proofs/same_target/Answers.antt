@@ -1,32 +1,26 @@
 -- `valid::same_target` meets its contract.
-use mathlib.Core.List.{[], ◌∷◌}
+use Rattle.std.proofs.Common.{◌≡◌, refl, ℕ, ℤ, [], ◌∷◌}
 use mathlib.Core.Bool.{or-false, not-not}
+use Rattle.record.specs.declared.Block.{Block}
+use Rattle.record.specs.declared.Block.TheVariants.{Nothing, Level1, Level2, Level5}
 use Rattle.record.proofs.Laws.{eqb_turned}
 use Rattle.valid.specs.Valid.{targets, among}
 use Rattle.valid.proofs.Laws.{new_target_none}
 use Rattle.valid.proofs.same_target.Goals as goal
 
-pub returns-in-Nothing : goal.returns-in-Nothing
+-- no level 2 block has a target
+no_target : (a : Block) → ((t s o p c g : ℕ) (m : ℤ) → a ≡ Level2 t s o p c g m → ⊥) → targets (a ∷ []) ≡ []
 unfolding targets
-returns-in-Nothing c = rw (new_target_none (c.args.a ∷ []) c.args.b (rw c.in-Nothing.is))
+no_target Nothing n = refl
+no_target (Level1 min max avg) n = refl
+no_target (Level2 t s o p c g m) n = absurd (n t s o p c g m refl)
+no_target (Level5 l r t b) n = refl
 
-pub returns-in-Level1 : goal.returns-in-Level1
-unfolding targets
-returns-in-Level1 c = rw (new_target_none (c.args.a ∷ []) c.args.b (rw c.in-Level1.is))
-
-pub returns-in-Nothing-b : goal.returns-in-Nothing-b
-returns-in-Nothing-b c = rw c.in-Nothing-b.is
-
-pub returns-in-Level1-b : goal.returns-in-Level1-b
-returns-in-Level1-b c = rw c.in-Level1-b.is
-
-pub returns-in-Level2-b : goal.returns-in-Level2-b
+pub returns-in-Level2-Level2 : goal.returns-in-Level2-Level2
 unfolding targets among
-returns-in-Level2-b c = rw (c.in-Level2.is, c.in-Level2-b.is, not-not, or-false, eqb_turned c.in-Level2.x)
+returns-in-Level2-Level2 c = let h = c.in-Level2-Level2 in rw (h.is-0, h.is-1, not-not, or-false, eqb_turned h.x)
 
-pub returns-in-Level5-b : goal.returns-in-Level5-b
-returns-in-Level5-b c = rw c.in-Level5-b.is
-
-pub returns-in-Level5 : goal.returns-in-Level5
-unfolding targets
-returns-in-Level5 c = rw (new_target_none (c.args.a ∷ []) c.args.b (rw c.in-Level5.is))
+pub returns-in_default-2 : goal.returns-in_default-2
+returns-in_default-2 c =
+    let a = c.args.a in
+    rw (new_target_none (a ∷ []) c.args.b (no_target a c.in_default.not-Level2-0))

@@ -1,4 +1,3 @@
-use Prim.Native.Nat.{◌≤◌, ◌-◌}
 use mathlib.Core.Path.{◌≡◌}
 use Rattle.tree.specs.Bits.{bits_of}
 use Rattle.tree.specs.Syntax.{read}
@@ -9,8 +8,6 @@ use Rattle.wrapper.specs.Wrapper.{wrapper_of}
 use Rattle.wrapper.proofs.Laws.{from_byte}
 use Rattle.wrapper.proofs.check_wrapper.Given as goal
 
+-- the answer from byte i on is the answer from the start
 abbrev pub invariant-loop-i : goal.invariant-loop-i
-invariant-loop-i l = (l.i ≤ 8) × (wrapper_of (from_byte l.input l.i) ≡ wrapper_of (read (wrapper_table «wrapper» wrapper_bytes) 0 (bits_of l.input)))
-
-abbrev pub decreases-loop-i : goal.decreases-loop-i
-decreases-loop-i l = 8 - l.i
+invariant-loop-i l = wrapper_of (from_byte l.input l.i) ≡ wrapper_of (read (wrapper_table «wrapper» wrapper_bytes) 0 (bits_of l.input))

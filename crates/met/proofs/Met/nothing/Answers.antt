@@ -1,8 +1,8 @@
--- `met::Met::nothing` meets its contract.
+-- `Met::nothing` meets its contract.
 use mathlib.Core.Path.{refl}
-use Rattle.valid.specs.Valid.{many}
+use Rattle.valid.specs.Valid.{many, targets}
 use Rattle.met.proofs.Met.nothing.Goals as goal
 
 pub returns : goal.returns
-unfolding many
+unfolding many targets
 returns c = refl
