@@ -29,21 +29,21 @@ extern "C" {
 #endif
 
 /*
- * What a call takes of the stack, at most, its return address with it. Measured, not proved (docs/BENCH.md), of the optimised
- * build for x86-64 by an older kit, rattle-kit-5b, and rounded up to the next 64; ? was not measured.
+ * What a call takes of the stack, at most, its return address with it. Measured, not proved, by bench/stack.py, of the
+ * optimised build for x86-64 by the kit that README.md names, and rounded up to the next 64.
  *
  *   stack, bytes
- *   pim_read_bare       1600
- *   pim_read_wrapped    1984
- *   pim_why_wrapped     ?
- *   pim_write_bare      2048
- *   pim_write_wrapped   2048
- *   pim_read_unit       6208
- *   pim_write_unit      2304
- *   pim_shader          64
- *   pim_place           1344
- *   pim_lookup          1920
- *   pim_join            2560
+ *   pim_read_bare       2368
+ *   pim_read_wrapped    2752
+ *   pim_why_wrapped     2560
+ *   pim_write_bare      1792
+ *   pim_write_wrapped   1792
+ *   pim_read_unit       7488
+ *   pim_write_unit      2112
+ *   pim_shader          128
+ *   pim_place           1088
+ *   pim_lookup          2304
+ *   pim_join            3136
  */
 
 /*

@@ -1,6 +1,6 @@
 -- Each public contract admits one answer.
 use mathlib.Core.Path.{sym, ◌∙◌}
-use Rattle.refusals.proofs.OneAnswer.{OneResult}
+use Rattle.window.proofs.OneAnswer.{OneResult}
 use Rattle.element.proofs.number_of.Kinds as number_of_lem
 use Rattle.element.proofs.number_of.Reads as number-of-contract
 use Rattle.element.proofs.Refused.at.Kinds as at
