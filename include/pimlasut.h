@@ -34,7 +34,7 @@ extern "C" {
  *
  *   stack, bytes
  *   pim_read_bare       2368
- *   pim_read_wrapped    2752
+ *   pim_read_wrapped    2688
  *   pim_why_wrapped     2560
  *   pim_write_bare      1792
  *   pim_write_wrapped   1792

@@ -66,7 +66,7 @@ module _ {A : Type 0} (k : ℕ) (p : Syntax Name A) (h : Takes k p) (at : ℕ) (
       omega (arith, m.3, h at m.0 a m.1)
 
 -- as a part
-took_few : (k : ℕ) (p : Syntax Name Item) → Takes k p → (at : ℕ) (s : List Bool) (t : Part) → Ok t ≡ part_of (read p at s) → part_took t ≤ k
+pub took_few : (k : ℕ) (p : Syntax Name Item) → Takes k p → (at : ℕ) (s : List Bool) (t : Part) → Ok t ≡ part_of (read p at s) → part_took t ≤ k
 took_few k p h at s t e = go (read p at s) refl e
   where
     go : (o : Out Name Item) → read p at s ≡ o → Ok t ≡ part_of o → part_took t ≤ k
@@ -99,7 +99,7 @@ unfolding sum_of_widths
 takes_done a at es b f = omega (arith, ap sum_of_widths (done_only a b at es f).0)
 
 -- a ue(v) code
-takes_length : (at : ℕ) (s : List Bool) (v n : ℕ) → ue ext_block_length most_zeros at s ≡ ok v n → n ≤ 2 * most_zeros + 1
+pub takes_length : (at : ℕ) (s : List Bool) (v n : ℕ) → ue ext_block_length most_zeros at s ≡ ok v n → n ≤ 2 * most_zeros + 1
 takes_length at s v n e =
     let c = (codes_ue ext_block_length most_zeros at).only s v n e in
     omega (arith, c.2, length-ue v, zeros_few most_zeros v c.0)
@@ -128,7 +128,7 @@ takes_fields l at es zs h =
     omega (arith, ap sum_of_widths r.1, widths_fields (fields_of l) zs r.0)
 
 module _ (l at : ℕ) (s : List Bool) where
-  few_fields : (b : Block) (n : ℕ) → mapped (block_of l) (read (row (fields_of l)) at s) ≡ ok b n → n ≤ content_bits
+  pub few_fields : (b : Block) (n : ℕ) → mapped (block_of l) (read (row (fields_of l)) at s) ≡ ok b n → n ≤ content_bits
   few_fields b n e = go (read (row (fields_of l)) at s) refl e
     where
       go : (o : Out Name (List ℤ)) → read (row (fields_of l)) at s ≡ o → mapped (block_of l) o ≡ ok b n → n ≤ content_bits
@@ -183,7 +183,7 @@ few_bytes : (n : ℤ) → allows (between (pos 0) (pos most_reserved)) n ≡ tru
 few_bytes (pos n) h = leb-true n most_reserved (and_parts (leb 0 n) (leb n most_reserved) h).1
 few_bytes (negsuc n) h = omega arith
 
-takes_body : (start : ℕ) (n l : ℤ) → Takes content_bits (body start n l)
+pub takes_body : (start : ℕ) (n l : ℤ) → Takes content_bits (body start n l)
 takes_body start n l at es i f =
     let m = must_only (length_rule start n (natural l)) (λ own. either start (natural l) (natural n)) at es i f in
     go (known (natural l)) refl m.0 m.1
@@ -192,7 +192,7 @@ takes_body start n l at es i f =
     go true q own k = takes_content start (natural l) at es i (rw q at k)
     go false q own k = takes_reserved (natural l) (natural n) (few_bytes n (rw q at own)) at es i (rw q at k)
 
-takes_after_length : (start : ℕ) (n : ℤ) → Takes (8 + content_bits) (after_length start n)
+pub takes_after_length : (start : ℕ) (n : ℤ) → Takes (8 + content_bits) (after_length start n)
 takes_after_length start n = takes_element content_bits 8 ext_block_level (fixed (unsigned 8)) (body start n) (λ z q. omega arith) (takes_body start n)
 
 -- ---- the order of level 1, right behind the zero bits
@@ -267,16 +267,16 @@ map_then : {A B C : Type 0} (h : A → B) (o : Out Name A) (k : B → Reader Nam
 map_then h (ok a n) k at s = refl
 map_then h (no f) k at s = refl
 
-read_closing : (start l : ℕ) (b : Block) (at : ℕ) (s : List Bool) → read (after_fields start l b) at s ≡ and_then (read (zero_bits ext_dm_alignment_zero_bit (padding l)) at s) (λ z. read (ordered start (kept b))) at s
+pub read_closing : (start l : ℕ) (b : Block) (at : ℕ) (s : List Bool) → read (after_fields start l b) at s ≡ and_then (read (zero_bits ext_dm_alignment_zero_bit (padding l)) at s) (λ z. read (ordered start (kept b))) at s
 read_closing start l b at s = read_then (zero_bits ext_dm_alignment_zero_bit (padding l)) (λ z. ordered start (kept b)) at s
 
-read_fields : (start l at : ℕ) (s : List Bool) → read (content_from start l) at s ≡ and_then (mapped (block_of l) (read (row (fields_of l)) at s)) (λ b. read (after_fields start l b)) at s
+pub read_fields : (start l at : ℕ) (s : List Bool) → read (content_from start l) at s ≡ and_then (mapped (block_of l) (read (row (fields_of l)) at s)) (λ b. read (after_fields start l b)) at s
 read_fields start l at s = read_then (row (fields_of l)) (λ zs. after_fields start l (block_of l zs)) at s ∙ sym (map_then (block_of l) (read (row (fields_of l)) at s) (λ b. read (after_fields start l b)) at s)
 
-read-level : (start : ℕ) (n : ℤ) (at : ℕ) (s : List Bool) → read (after_length start n) at s ≡ and_then (u ext_block_level 8 at s) (λ l. read (body start n (pos l))) at s
+pub read-level : (start : ℕ) (n : ℤ) (at : ℕ) (s : List Bool) → read (after_length start n) at s ≡ and_then (u ext_block_level 8 at s) (λ l. read (body start n (pos l))) at s
 read-level start n at s = read-any ext_block_level (fixed (unsigned 8)) (body start n) at s ∙ map_then pos (u ext_block_level 8 at s) (λ l. read (body start n l)) at s
 
-read_length : (at : ℕ) (s : List Bool) → read block at s ≡ and_then (ue ext_block_length most_zeros at s) (λ n. read (after_length at (pos n))) at s
+pub read_length : (at : ℕ) (s : List Bool) → read block at s ≡ and_then (ue ext_block_length most_zeros at s) (λ n. read (after_length at (pos n))) at s
 read_length at s = block_ordered at s ∙ read-any ext_block_length variable (after_length at) at s ∙ map_then pos (ue ext_block_length most_zeros at s) (λ n. read (after_length at n)) at s
 
 -- ---- answers
@@ -311,15 +311,15 @@ shifted n (no r) = refl
 -- else a refusal or an answer of the second
 module _ {A : Type 0} (t : Syntax Name Item) (o : Out Name A) (g : A → Syntax Name Item) (at : ℕ) (bits : List Bool)
     (q : read t at (drop at bits) ≡ and_then o (λ a. read (g a)) at (drop at bits)) where
-  first_no : (r : Refused) → Tells o r → Err r ≡ part_of (read t at (drop at bits))
+  pub first_no : (r : Refused) → Tells o r → Err r ≡ part_of (read t at (drop at bits))
   first_no r (f, e, k) = sym (ap part_of q ∙ rw (e, k) refl)
 
   -- of one element, which has a name
-  first_told : (name : Name) (why : Unread) → ToldOf o name why → Err (unread_of (element_of name) why) ≡ part_of (read t at (drop at bits))
+  pub first_told : (name : Name) (why : Unread) → ToldOf o name why → Err (unread_of (element_of name) why) ≡ part_of (read t at (drop at bits))
   first_told name why (f, e, n, k) = sym (ap part_of q ∙ rw (e, n, k) refl)
 
   module _ (a : A) (n : ℕ) (e : o ≡ ok a n) where
-    second_on : behind n (part_of (read (g a) (at + n) (drop (at + n) bits))) ≡ part_of (read t at (drop at bits))
+    pub second_on : behind n (part_of (read (g a) (at + n) (drop (at + n) bits))) ≡ part_of (read t at (drop at bits))
     second_on = shifted n (read (g a) (at + n) (drop (at + n) bits)) ∙ sym (ap part_of q ∙ rw (e, drop-drop n at bits) refl)
 
     second_no : (r : Refused) → Err r ≡ part_of (read (g a) (at + n) (drop (at + n) bits)) → Err r ≡ part_of (read t at (drop at bits))

@@ -170,10 +170,10 @@ told_is_shown s why (f, q, t) = rw (t, each_is_named s f q, ap cause_in q) (caus
 
 -- ---- a code that is read again
 
-code_again : (bits : List Bool) (at v : ℕ) (t : List Bool) → bits ≡ ue_code v ++ t → holds_in variable (pos v) ≡ true → (ue nameless most_zeros at bits ≡ ok v (length (ue_code v))) × (drop (length (ue_code v)) bits ≡ t)
+pub code_again : (bits : List Bool) (at v : ℕ) (t : List Bool) → bits ≡ ue_code v ++ t → holds_in variable (pos v) ≡ true → (ue nameless most_zeros at bits ≡ ok v (length (ue_code v))) × (drop (length (ue_code v)) bits ≡ t)
 code_again bits at v t e h = rw e ((codes_ue nameless most_zeros at).takes v (ltb-true (v + 1) (2 ^ suc most_zeros) h) t, drop_at (ue_code v) t (length (ue_code v)) refl)
 
-code_short : (v : ℕ) → holds_in variable (pos v) ≡ true → length (ue_code v) ≤ 63
+pub code_short : (v : ℕ) → holds_in variable (pos v) ≡ true → length (ue_code v) ≤ 63
 code_short v h = omega (arith, length-ue v, zeros_few most_zeros v (ltb-true (v + 1) (2 ^ suc most_zeros) h))
 
 -- refusals but for these have other numbers

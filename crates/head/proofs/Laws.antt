@@ -184,7 +184,7 @@ module _ (name : Name) (k x : ℕ) (p : Syntax Name Head) (at : ℕ) (bits : Lis
     pub one_other : (r.value ≡ x → ⊥) → Err (refused (refusal_of k) (element_of name) at) ≡ opening_of (read table at (drop at bits))
     one_other h = sym (ap opening_of (read-ranged name variable k (pos x) (pos x) (λ z. p) at (drop at bits)) ∙ rw (stands, range_of_one x r.value, ne_eqb r.value x h) refl)
 
-    one_on : r.value ≡ x → behind r.width (opening_of (read p (at + r.width) (drop (at + r.width) bits))) ≡ opening_of (read table at (drop at bits))
+    pub one_on : r.value ≡ x → behind r.width (opening_of (read p (at + r.width) (drop (at + r.width) bits))) ≡ opening_of (read table at (drop at bits))
     one_on h =
         shifted r.width (read p (at + r.width) (drop (at + r.width) bits))
         ∙ sym (ap opening_of (read-ranged name variable k (pos x) (pos x) (λ z. p) at (drop at bits)) ∙ rw (stands, range_of_one x r.value, eq-eqb r.value x h, drop-drop r.width at bits) refl)
@@ -223,7 +223,7 @@ module _ (at : ℕ) (bits : List Bool) where
     unfolding read
     flag_off h = sym (ap opening_of read_flag_lem ∙ rw (ne_eqb r.value 1 h, add-zero r.width) refl)
 
-    flag_on : r.value ≡ 1 → behind r.width (opening_of (read block_count (at + r.width) (drop (at + r.width) bits))) ≡ opening_of (read from_flag at (drop at bits))
+    pub flag_on : r.value ≡ 1 → behind r.width (opening_of (read block_count (at + r.width) (drop (at + r.width) bits))) ≡ opening_of (read from_flag at (drop at bits))
     flag_on h = shifted r.width (read block_count (at + r.width) (drop (at + r.width) bits)) ∙ sym (ap opening_of read_flag_lem ∙ rw (eq-eqb r.value 1 h) refl)
 
     pub flag_then_no : r.value ≡ 1 → (why : Refused) → Err why ≡ opening_of (read block_count (at + r.width) (drop (at + r.width) bits)) → Err why ≡ opening_of (read from_flag at (drop at bits))
@@ -272,7 +272,7 @@ module _ (h : Head) (at : ℕ) (s : List Bool) where
   unfolding aligned_head read
   aligned-all n e = read_then (first_alignment h.count) (λ y. done h) at s ∙ rw (first_read (eqb h.count 0), e, add-zero n) refl
 
-  aligned_no : (why : Unread) → Err why ≡ span_of (read (zero_bits nameless gap) at s) → Err (unread_of DmAlignmentZeroBit why) ≡ opening_of (read (aligned_head h) at s)
+  pub aligned_no : (why : Unread) → Err why ≡ span_of (read (zero_bits nameless gap) at s) → Err (unread_of DmAlignmentZeroBit why) ≡ opening_of (read (aligned_head h) at s)
   aligned_no why e =
       let f = refused_zeros dm_alignment_zero_bit at s why gap e in
       by_told dm_alignment_zero_bit why f.0 (read (aligned_head h) at s) f.2 f.3 (aligned_none f.0 f.1)
@@ -281,10 +281,10 @@ module _ (h : Head) (at : ℕ) (s : List Bool) where
     gap_read : read (zero_bits dm_alignment_zero_bit gap) at s ≡ ok tt r.width
     gap_read = spans_ok (read (zero_bits dm_alignment_zero_bit gap) at s) r.value r.width (e ∙ named_zeros dm_alignment_zero_bit gap at s)
 
-    aligned_took : r.width ≡ gap
+    pub aligned_took : r.width ≡ gap
     aligned_took = zeros_took dm_alignment_zero_bit gap at s r.width gap_read
 
-    aligned_is : Ok (record { refresh = h.refresh; count = h.count; width = r.width }) ≡ opening_of (read (aligned_head h) at s)
+    pub aligned_is : Ok (record { refresh = h.refresh; count = h.count; width = r.width }) ≡ opening_of (read (aligned_head h) at s)
     aligned_is = sym (ap opening_of (aligned-all r.width gap_read))
 
 gap_few : (none : Bool) (at : ℕ) → cond (not none) (to_boundary at) 0 ≤ 7

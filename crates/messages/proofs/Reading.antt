@@ -96,7 +96,7 @@ number_is s v rest (counts w n) e =
     (n, ap (λ (x : ℕ × List ℕ). counts x.0 n) a, sym (ap (λ (x : ℕ × List ℕ). x.1) a))
 
 -- and which none
-number_past : (s : List ℕ) (c : Chain) → None ≡ number_in s c → c ≡ past
+pub number_past : (s : List ℕ) (c : Chain) → None ≡ number_in s c → c ≡ past
 number_past s past e = refl
 number_past s (counts w n) e = let z : ◌≡◌ {A = ℕ} 0 1 = cc in clash z
 

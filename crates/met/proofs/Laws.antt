@@ -22,7 +22,7 @@ use Rattle.record.proofs.Laws.{and_left, eqb_turned}
 use Rattle.valid.specs.Valid.{many, targets, among, may_follow, repeat_number}
 use Rattle.valid.proofs.Laws.{many_more, targets-append}
 use Rattle.met.specs.declared.Met.{Met}
-use Rattle.met.specs.Met.{most_targets, entries, no_target, target_of, met_of, targets_met, repeat_of}
+use Rattle.met.specs.Met.{most_targets, entries, no_target, target_of, Counts, met_of, targets_met, repeat_of}
 
 -- ---- the targets that are kept
 
@@ -130,6 +130,20 @@ met_more bs (Level1 min max avg) = simp (many_more, add-zero, lt-ltb 0 (many 1 b
 met_more bs (Level2 t s o p c g m) = simp (many_more, add-zero)
 met_more bs (Level5 l r t b) = simp (many_more, add-zero, lt-ltb 0 (many 5 bs + 1) (omega arith))
 
+-- the counts hang on no target
+same_counts : (m : Met) (ts us : List ℕ) (bs : List Block) (b : Block) → Counts m bs
+    → ((counted m ts b).one ≡ (counted (met_of bs) us b).one) × ((counted m ts b).five ≡ (counted (met_of bs) us b).five) × ((counted m ts b).twos ≡ (counted (met_of bs) us b).twos)
+same_counts m ts us bs Nothing c = c
+same_counts m ts us bs (Level1 min max avg) c = (refl, c.1, c.2)
+same_counts m ts us bs (Level2 t s o p k g w) c = (c.0, c.1, ap (λ (n : ℕ). n + 1) c.2)
+same_counts m ts us bs (Level5 l r t b) c = (c.0, refl, c.2)
+
+-- so they are right whatever is kept of the targets
+pub counts_more : (m : Met) (ts : List ℕ) (bs : List Block) (b : Block) → Counts m bs → Counts (counted m ts b) (bs ++ (b ∷ []))
+counts_more m ts bs b c =
+    let s = same_counts m ts (targets_met (bs ++ (b ∷ []))) bs b c in
+    let q = met_more bs b in (s.0 ∙ ap (λ (k : Met). k.one) q, s.1 ∙ ap (λ (k : Met). k.five) q, s.2 ∙ ap (λ (k : Met). k.twos) q)
+
 -- what the code keeps of it
 abbrev pub included : Met → Block → Met
 included m b = counted m (store m.targets m.twos (target_of b)) b
@@ -163,6 +177,16 @@ met_repeats bs Nothing h = refl
 met_repeats bs (Level1 min max avg) h = rw (not_first (ltb (many 1 bs) 1) h)
 met_repeats bs (Level2 t s o p c g m) h = ap Some (chosen (ltb (many 2 bs) most_targets))
 met_repeats bs (Level5 l r t b) h = rw (not_first (ltb (many 5 bs) 1) h)
+
+-- which it is hangs on the counts alone
+pub counts_repeat : (m : Met) (bs : List Block) (b : Block) → Counts m bs → may_follow bs b ≡ false → repeats m b ≡ repeat_of bs b
+counts_repeat m bs b c h = same m bs b c ∙ met_repeats bs b h
+  where
+    same : (m : Met) (bs : List Block) (b : Block) → Counts m bs → repeats m b ≡ repeats (met_of bs) b
+    same m bs Nothing c = refl
+    same m bs (Level1 min max avg) c = refl
+    same m bs (Level2 t s o p k g w) c = ap (λ (n : ℕ). Some (cond (ltb n most_targets) RepeatedTarget SeventeenthLevel2)) c.2
+    same m bs (Level5 l r t b) c = refl
 
 -- the number of a repeat, 0 for none
 abbrev pub number_for : Option Refusal → ℕ

@@ -1,5 +1,5 @@
 -- What is kept of the blocks that were met: by it alone it is decided whether one more may follow.
-use Rattle.std.specs.Prelude.{ℕ, ◌+◌, ◌-◌, Option, Some, None, List, ◌++◌, ltb, length, replicate}
+use Rattle.std.specs.Prelude.{ℕ, ◌≡◌, ◌+◌, ◌-◌, Option, Some, None, List, ◌++◌, ltb, length, replicate}
 use Rattle.refusals.specs.Numbered.{refusal_of}
 use Rattle.refusals.specs.declared.Refusal.{Refusal}
 use Rattle.record.specs.declared.Block.{Block}
@@ -30,6 +30,10 @@ target_of (Level5 l r t b) = None
 -- the target_max_PQ values that were met, and none in the entries behind them
 abbrev pub targets_met : List Block → List ℕ
 targets_met bs = targets bs ++ replicate (entries - length (targets bs)) no_target
+
+-- that one of level 1 and one of level 5 were met, or none, and how many of level 2; it says nothing of the targets
+abbrev pub Counts : Met → List Block → Type 0
+Counts m bs = (m.one ≡ ltb 0 (many 1 bs)) × (m.five ≡ ltb 0 (many 5 bs)) × (m.twos ≡ many 2 bs)
 
 -- whether one of level 1 and one of level 5 were met, how many of level 2, and the targets of these
 abbrev pub met_of : List Block → Met

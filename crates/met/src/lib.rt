@@ -5,7 +5,7 @@ ghost use Rattle.std.specs.Prelude.{◌≡◌, true, false, List, [], ◌∷◌,
 ghost use Rattle.record.specs.declared.Block.{Block};
 ghost use Rattle.record.specs.Blocks.{in_range};
 ghost use Rattle.valid.specs.Valid.{among, may_follow};
-ghost use Rattle.met.specs.Met.{most_targets, target_of, met_of, repeat_of};
+ghost use Rattle.met.specs.Met.{most_targets, target_of, Counts, met_of, repeat_of};
 
 use record::Block;
 use refusals::Refusal;
@@ -80,7 +80,7 @@ impl Met {
     // 02, e: which repeat b is, where it may not stand behind the blocks that were met: one too many of its level, or else a target_max_PQ
     // already met.
     pub fn repeat_of(&self, b: Block) -> Option<Refusal>
-        ensures { (before : List Block) → self.now ≡ met_of before → may_follow before b ≡ false → result ≡ repeat_of before b }
+        ensures { (before : List Block) → Counts self.now before → may_follow before b ≡ false → result ≡ repeat_of before b }
     {
         match b {
             Block::Nothing => None,
@@ -94,7 +94,8 @@ impl Met {
     // b is one more of the blocks that were met.
     pub fn include(&mut self, b: Block)
         requires { self.old.twos ≤ most_targets }
-        ensures { (before : List Block) → self.old ≡ met_of before → self.new ≡ met_of (before ++ (b ∷ [])) }
+        ensures kept { (before : List Block) → self.old ≡ met_of before → self.new ≡ met_of (before ++ (b ∷ [])) }
+        ensures counts { (before : List Block) → Counts self.old before → Counts self.new (before ++ (b ∷ [])) }
     {
         match b {
             Block::Level1 { .. } => self.one = true,

@@ -2,15 +2,16 @@
 use Prim.Native.Nat.{ℕ, ◌<◌, ◌≤◌}
 use mathlib.Core.Path.{◌≡◌, refl, sym, ap, subst, ◌∙◌}
 use mathlib.Core.Bool.{Bool, true, false, cond, ◌&&◌}
-use mathlib.Core.List.{List, ◌++◌}
+use mathlib.Core.List.{List, ◌++◌, map}
 use native.Mathlib.Omega.{arith}
-use borrow.Author.Tests.{ne_eqb, eq-eqb}
-use lib.Dec.{eqb}
+use borrow.Author.Tests.{ne_eqb, eq-eqb, leb-true}
+use lib.Dec.{eqb, leb}
 use lib.IntN.{ℤ}
 use lib.ListN.{length, take, drop}
 use lib.Seq.{take_all}
 use Rattle.std.specs.Prelude.{Option, Some, None, is_some, Result, Ok, Err}
 use Rattle.refusals.specs.declared.Refusal.{Refusal}
+use Rattle.refusals.specs.declared.Refusal.TheVariants.{UnfitOutput, TooManyPoints, NotATrack}
 use Rattle.refusals.specs.Numbered.{number_of}
 use Rattle.refusals.specs.Refusals.{unfit_output, not_valid}
 use Rattle.output.specs.declared.Written.{Written}
@@ -26,7 +27,9 @@ use Rattle.sei.specs.SeiUnit.{unit_bytes}
 use Rattle.sei.proofs.Functions.{most_unit_bytes_lem}
 use Rattle.plan.specs.declared.Layout.{Layout}
 use Rattle.plan.specs.declared.entry.Entry.{Entry}
+use Rattle.plan.specs.declared.Scanned.{Scanned}
 use Rattle.plan.specs.Limit.{most_points}
+use Rattle.plan.specs.Planning.{no_sources, named, layout_of, merged_sources, plan_of}
 use Rattle.plan.specs.Seeking.{seek_of}
 use Rattle.track.specs.declared.InForce.{InForce}
 use Rattle.track.specs.declared.Joined.{Joined}
@@ -171,6 +174,25 @@ module _ (l : List ℤ) (n : ℕ) (p : ℤ) where
 
 -- ---- a join
 
+-- how many points a join leaves: none where it is refused
+abbrev pub count_in : Result Layout Refusal → ℕ
+count_in (Ok l) = l.count
+count_in (Err r) = 0
+
+fitting_count : (c : List ℕ) (t : Bool) → (t ≡ true → length c ≤ most_points)
+    → count_in (cond t (Ok (record { count = length c; sources = map named (c ++ drop (length c) no_sources) })) (Err TooManyPoints)) ≤ most_points
+fitting_count c true h = h refl
+fitting_count c false h = omega arith
+
+pub few_points : (s : Scanned) (n : ℕ) (t : Scanned) (m k : ℕ) → count_in (plan_of s n t m k) ≤ most_points
+few_points s n t m k = go s.track t.track (eqb k most_points)
+  where
+    go : (u v w : Bool) → count_in (cond u (cond v (cond w (layout_of (merged_sources s.pictures n t.pictures m)) (Err UnfitOutput)) (Err NotATrack)) (Err NotATrack)) ≤ most_points
+    go true true true = fitting_count (merged_sources s.pictures n t.pictures m) (leb (length (merged_sources s.pictures n t.pictures m)) most_points) (leb-true (length (merged_sources s.pictures n t.pictures m)) most_points)
+    go true true false = omega arith
+    go true false w = omega arith
+    go false v w = omega arith
+
 module _ (a : List ℤ) (n : ℕ) (b : List ℤ) (m : ℕ) where
   abbrev pub planned : Result Layout Refusal
   planned = laid (table_in a) n (table_in b) m most_points
@@ -178,7 +200,7 @@ module _ (a : List ℤ) (n : ℕ) (b : List ℤ) (m : ℕ) where
   abbrev pub expected : Joined
   expected = join_answer (table_in a) n (table_in b) m most_points
 
-  planned_answer : (o : Result Layout Refusal) → planned ≡ o → answer_of o ≡ expected
+  pub planned_answer : (o : Result Layout Refusal) → planned ≡ o → answer_of o ≡ expected
   planned_answer o e = ap answer_of (sym e) ∙ answer_is (table_in a) n (table_in b) m most_points
 
   pub planned_refused : (r : Refusal) → planned ≡ Err r → number_of r ≡ expected.result

@@ -17,7 +17,7 @@ ghost use Rattle.shader.specs.Shader.{bits_in, conversion_result, conversion_bit
 ghost use Rattle.reason.specs.Reason.{write_reason, reason_buffer};
 ghost use Rattle.flat.specs.Flat.{place_length, flat, flat_length, record_in, block_named};
 ghost use Rattle.tables.specs.Table.{flat_point};
-ghost use Rattle.pimlasut.specs.Boundary.{number_for, if_sized, after, is_record, is_point, is_table, facts_length, facts_of, facts_after, answer_into, singles, placing, placed_table, looking, joining, joined_table, Patterns};
+ghost use Rattle.pimlasut.specs.Boundary.{number_for, if_sized, after, is_record, is_point, is_table, is_facts, facts_length, facts_of, facts_after, answer_into, singles, placing, placed_table, looking, joining, joined_table, Patterns};
 
 use output::Written;
 use reader::Reading;
@@ -73,17 +73,30 @@ fn clear_facts(facts: &mut [u32])
     }
 }
 
-// Gives what was read, into a record's row and a row of facts. (Their lengths are judged after the reading: it changes no answer, and the
-// three that read differ in their reader alone.)
+// Whether a record's row and a row of facts have their lengths. It is asked before anything is read, so that a call with another length costs
+// the same whatever the input is.
+fn are_sized(numbers: &[i32], facts: &[u32]) -> bool
+    ensures { result ≡ is_record numbers.now && is_facts facts.now }
+{
+    numbers.len() == flat::NUMBERS && facts.len() == FACTS
+}
+
+// Refuses a reading for a length.
+fn refuse_reading(facts: &mut [u32]) -> u32
+    ensures result { result ≡ unfit_output }
+    ensures facts { facts.new ≡ facts_after (unplaced unfit_output) facts.old }
+{
+    clear_facts(facts);
+    refused(WRONG_LENGTH)
+}
+
+// Gives what was read, into a record's row and a row of facts.
 fn give_reading(reading: Reading, numbers: &mut [i32], facts: &mut [u32]) -> u32
+    requires { (length numbers.old ≡ flat_length) × (length facts.old ≡ facts_length) }
     ensures result { result ≡ (answer_into numbers.old facts.old reading).result }
     ensures record { numbers.new ≡ after result (flat reading.«record») numbers.old }
     ensures facts { facts.new ≡ facts_after (answer_into numbers.old facts.old reading) facts.old }
 {
-    if numbers.len() != flat::NUMBERS || facts.len() != FACTS {
-        clear_facts(facts);
-        return refused(WRONG_LENGTH);
-    }
     put_facts(&reading, facts);
     if reading.result != 0 {
         return u32::from(reading.result);
@@ -98,6 +111,9 @@ pub extern "C" fn pim_read_bare(input: &[u8], numbers: &mut [i32], facts: &mut [
     ensures record { numbers.new ≡ after result (flat (read_bare input.now).«record») numbers.old }
     ensures facts { facts.new ≡ facts_after (answer_into numbers.old facts.old (read_bare input.now)) facts.old }
 {
+    if !are_sized(numbers, facts) {
+        return refuse_reading(facts);
+    }
     give_reading(reader::read_data(input), numbers, facts)
 }
 
@@ -107,6 +123,9 @@ pub extern "C" fn pim_read_wrapped(input: &[u8], numbers: &mut [i32], facts: &mu
     ensures record { numbers.new ≡ after result (flat (read_wrapped input.now).«record») numbers.old }
     ensures facts { facts.new ≡ facts_after (answer_into numbers.old facts.old (read_wrapped input.now)) facts.old }
 {
+    if !are_sized(numbers, facts) {
+        return refuse_reading(facts);
+    }
     give_reading(wrapper::read_wrapped(input), numbers, facts)
 }
 
@@ -116,6 +135,9 @@ pub extern "C" fn pim_read_unit(input: &[u8], numbers: &mut [i32], facts: &mut [
     ensures record { numbers.new ≡ after result (flat (read_unit input.now).«record») numbers.old }
     ensures facts { facts.new ≡ facts_after (answer_into numbers.old facts.old (read_unit input.now)) facts.old }
 {
+    if !are_sized(numbers, facts) {
+        return refuse_reading(facts);
+    }
     give_reading(sei::read_unit(input), numbers, facts)
 }
 
@@ -336,9 +358,10 @@ fn join_into(
     }
     let s = tables::scan(first, first_count);
     let t = tables::scan(second, second_count);
-    let layout = plan::decide(s, first_count, t, second_count, plan::POINTS)?;
+    let layout = plan::decide(s, first_count, t, second_count, plan::POINTS);
     tables::fill(table, first, second, &layout);
-    Ok(layout.count as u32)
+    let done = layout?;
+    Ok(done.count as u32)
 }
 
 #[unsafe(no_mangle)]

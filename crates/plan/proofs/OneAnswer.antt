@@ -18,6 +18,8 @@ use Rattle.plan.proofs.note.Kinds as note
 use Rattle.plan.proofs.note.Reads as note-contract
 use Rattle.plan.proofs.Layout.sources.Kinds as sources
 use Rattle.plan.proofs.Layout.sources.Reads as sources-contract
+use Rattle.plan.proofs.entry.Entry.at_most.Kinds as at-most
+use Rattle.plan.proofs.entry.Entry.at_most.Reads as at-most-contract
 use Rattle.plan.proofs.choose.Kinds as choose
 use Rattle.plan.proofs.choose.Reads as choose-contract
 use Rattle.plan.proofs.merge.Kinds as merge
@@ -48,6 +50,9 @@ note_one κs a x y s t e f = e ∙ sym f
 pub sources_one : (κs : Lfts 1) (a : Dens κs sources.ps) (x y : (res_t sources.r κs).Denot) (s t : AtExit (ended_of 1 sources.ps sources.r) κs)
     → sources-contract.Post κs a x s → sources-contract.Post κs a y t → ◌≡◌ {A = List Source} x.now y.now
 sources_one κs a x y s t e f = e.0 ∙ sym f.0
+
+pub at_most_one : OneResult at-most.ps at-most.r at-most-contract.Post
+at_most_one κs a x y s t e f = e ∙ sym f
 
 pub choose_one : OneResult choose.ps choose.r choose-contract.Post
 choose_one κs a x y s t e f = e ∙ sym f

@@ -16,7 +16,7 @@ impl Entry {
     ghost use Rattle.plan.specs.Entries.{entry_at};
 
     // The entry at the index, or the last.
-    pub(crate) fn at_most(index: usize) -> Entry
+    pub fn at_most(index: usize) -> Entry
         ensures { result ≡ entry_at index }
     {
         if index < POINTS {

@@ -1,5 +1,6 @@
 -- A table of points as a row of numbers, for callers that have no Point.
-use Rattle.std.specs.Prelude.{ℕ, ◌+◌, ◌*◌, Bool, Option, Some, None, List, ◌∷◌, ℤ, pos, take, drop, replicate}
+use Rattle.std.specs.Prelude.{ℕ, ◌+◌, ◌*◌, Bool, Option, Some, None, Result, Ok, Err, List, ◌∷◌, ℤ, pos, take, drop, replicate}
+use Rattle.refusals.specs.declared.Refusal.{Refusal}
 use Rattle.tree.specs.Coding.{unsigned, holds}
 use Rattle.plan.specs.declared.Layout.{Layout}
 use Rattle.plan.specs.declared.entry.Entry.{Entry}
@@ -48,6 +49,7 @@ abbrev pub found_in : List ℤ → Option Entry → Point
 found_in l (Some entry) = point_in l entry.at
 found_in l None = cleared
 
--- the numbers of a table that a layout has filled
-abbrev pub filled_as : List ℤ → List ℤ → Layout → List ℤ
-filled_as a b l = flat_table (filled_by (table_in a) (table_in b) l)
+-- the numbers of a table that a layout has filled; none changes where it is a refusal
+abbrev pub filled_as : List ℤ → List ℤ → List ℤ → Result Layout Refusal → List ℤ
+filled_as table a b (Ok l) = flat_table (filled_by (table_in a) (table_in b) l)
+filled_as table a b (Err r) = table

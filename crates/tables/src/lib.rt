@@ -5,10 +5,11 @@
 ghost use Rattle.std.specs.Prelude.{◌≡◌, true, ◌+◌, ◌*◌, ◌<◌, ◌≤◌, length};
 ghost use Rattle.std.proofs.Math.Seq.{paste};
 ghost use Rattle.plan.specs.Limit.{most_points};
-ghost use Rattle.track.specs.Inner.{scan_of, chosen_of};
-ghost use Rattle.tables.specs.Table.{flat_point, point_length, table_length, zero_row, point_in, table_in, found_in, filled_as};
+ghost use Rattle.track.specs.Inner.{scan_of, chosen_of, filled_by};
+ghost use Rattle.tables.specs.Table.{flat_point, point_length, table_length, zero_row, point_in, flat_table, table_in, found_in, filled_as};
 
 use plan::{Entry, Layout, Scanned, Source};
+use refusals::Refusal;
 use track::Point;
 
 // How many numbers a point has, and a table. (That a table has so many stays a clause: C lends slices, whose length `pimlasut` judges once, and an
@@ -88,11 +89,21 @@ fn chosen(first: &[i32], second: &[i32], source: Source) -> Point
 }
 
 // Writes each entry of the result, as the layout has it.
-pub fn fill(res: &mut [i32], first: &[i32], second: &[i32], layout: &Layout)
+fn fill_entries(res: &mut [i32], first: &[i32], second: &[i32], layout: &Layout)
     requires { (length res.old ≡ table_length) × (length first.now ≡ table_length) × (length second.now ≡ table_length) }
-    ensures { res.new ≡ filled_as first.now second.now layout.now }
+    ensures { res.new ≡ flat_table (filled_by (table_in first.now) (table_in second.now) layout.now) }
 {
     for (k, source) in layout.sources().iter().enumerate() {
         put_point(res, POINT * k, chosen(first, second, *source));
+    }
+}
+
+// The same of a plan; where that is a refusal, no entry is written.
+pub fn fill(res: &mut [i32], first: &[i32], second: &[i32], layout: &Result<Layout, Refusal>)
+    requires { (length res.old ≡ table_length) × (length first.now ≡ table_length) × (length second.now ≡ table_length) }
+    ensures { res.new ≡ filled_as res.old first.now second.now layout.now }
+{
+    if let Ok(done) = layout {
+        fill_entries(res, first, second, done);
     }
 }

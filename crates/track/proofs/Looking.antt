@@ -25,7 +25,7 @@ use Rattle.plan.proofs.Chosen.{clamped_in}
 use Rattle.plan.proofs.Reaching.{reach_le}
 use Rattle.track.specs.declared.Point.{Point}
 use Rattle.track.specs.Track.{number, RisingPoints, is_track, point_in_force, none_in_force, shown, lookup_answer}
-use Rattle.track.specs.Inner.{unfilled, point_at, scan_of, held_of, look_from}
+use Rattle.track.specs.Inner.{unfilled, point_at, scan_of, held_of, look_from, look_by}
 use Rattle.track.proofs.Tracks.{scan_track, is_track_lem, rise_rising, numbers}
 
 is : (b : Bool) → T b → b ≡ true
@@ -73,10 +73,17 @@ found_suc i =
     let e : suc i - 1 ≡ i = omega arith in
     ap (λ (b : Bool). cond b none_sought (sought_at (suc i - 1))) (ne_eqb (suc i) 0 (λ e. omega (arith, e))) ∙ ap sought_at e
 
-look_at : (ys : List Point) (n r : ℕ) → r ≤ n → n ≤ most_points → look_from ys (found_at r) ≡ shown (pick_at (take n ys) r)
-look_at ys n zero h g = refl
-look_at ys n (suc i) h g =
-    ap (look_from ys) (found_suc i) ∙ ap (λ (k : ℕ). held_of (point_at ys k)) (clamped_in i (omega arith)) ∙ ap held_of (sym (get_or-take n ys i unfilled h))
+look_at : (ys : List Point) (n r : ℕ) → r ≤ n → look_by ys r ≡ shown (pick_at (take n ys) r)
+look_at ys n zero h = refl
+look_at ys n (suc i) h = ap held_of (sym (get_or-take n ys i unfilled h))
+
+-- of a table's entries it is what the search gives
+look_found : (ys : List Point) (r : ℕ) → r ≤ most_points → look_from ys (found_at r) ≡ look_by ys r
+look_found ys zero g = refl
+look_found ys (suc i) g = ap (look_from ys) (found_suc i) ∙ ap (λ (k : ℕ). held_of (point_at ys k)) (clamped_in i (omega arith))
+
+looked_at : (ys : List Point) (n r : ℕ) → r ≤ n → n ≤ most_points → look_from ys (found_at r) ≡ shown (pick_at (take n ys) r)
+looked_at ys n r h g = look_found ys r (omega arith) ∙ look_at ys n r h
 
 module _ (ys : List Point) (n : ℕ) (p : ℤ) where
   abbrev r : ℕ
@@ -95,7 +102,7 @@ module _ (ys : List Point) (n : ℕ) (p : ℤ) where
   find_by : (b : Bool) → is_track ys n ≡ b → look_from ys (cond b (found_at r) (Err NotATrack)) ≡ cond b (shown (point_in_force p (take n ys))) (none_in_force not_a_track)
   find_by true e =
       let t = is_track_lem ys n e in
-      ap (λ (k : ℕ). look_from ys (found_at k)) (r_is e) ∙ look_at ys n (reached p (take n ys)) (r_le e) t.few ∙ ap shown (sym (in_force_at p (take n ys) (rise_rising (take n ys) t.rises)))
+      ap (λ (k : ℕ). look_from ys (found_at k)) (r_is e) ∙ looked_at ys n (reached p (take n ys)) (r_le e) t.few ∙ ap shown (sym (in_force_at p (take n ys) (rise_rising (take n ys) t.rises)))
   find_by false e = refl
 
   abbrev pub seek : Result (Option Entry) Refusal

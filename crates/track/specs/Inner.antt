@@ -67,6 +67,11 @@ look_from table (Ok (Some entry)) = held_of (point_at table entry.at)
 look_from table (Ok None) = none_in_force 0
 look_from table (Err r) = none_in_force (number_of r)
 
+-- what is answered where so many points of a list of any length are reached: the last of them, or nothing where there is none
+abbrev pub look_by : List Point → ℕ → InForce
+look_by table zero = none_in_force 0
+look_by table (suc i) = held_of (point_at table i)
+
 -- ---- place
 -- a placing's outcome, as it is answered: on a refusal the count is 0
 abbrev pub placed : Result ℕ Refusal → Placed

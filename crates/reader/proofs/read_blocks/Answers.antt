@@ -2,12 +2,18 @@
 -- are counted, and the answer from here is the answer from the start.
 use Prim.Native.Nat.{◌+◌}
 use mathlib.Core.Path.{◌≡◌, refl, ◌∙◌, sym}
+use mathlib.Core.List.{List}
+use mathlib.Core.Bool.{false}
 use native.Mathlib.Omega.{arith}
 use lib.ListN.{drop}
-use Rattle.std.proofs.Common.{Ok, Some, rules}
+use Rattle.std.proofs.Common.{Option, Ok, Some, rules}
+use Rattle.refusals.specs.declared.Refusal.{Refusal}
 use Rattle.tree.specs.Bits.{bits_of}
 use Rattle.tree.specs.Syntax.{read}
-use Rattle.valid.specs.Valid.{many, targets}
+use Rattle.record.specs.declared.Block.{Block}
+use Rattle.valid.specs.Valid.{many, targets, may_follow}
+use Rattle.met.specs.declared.Met.{Met}
+use Rattle.met.specs.Met.{Counts, met_of, repeat_of}
 use Rattle.syntax.specs.Data.{announced, block}
 use Rattle.block.specs.Parts.{part_of}
 use Rattle.block.specs.declared.Part.TheVariants.{Kept, Passed}
@@ -57,12 +63,17 @@ known : (c : In-Kept)
     → Ok (Kept c.in-Kept.m c.in-Kept.block) ≡ part_of (read block (c.args.start + c.loop-i.width) (drop (c.args.start + c.loop-i.width) (bits_of c.args.s.now)))
 known c = rw c.in-Kept.is at (sym c.in-Ok.is ∙ c.read_block.ensures)
 
+-- what hangs on the counts alone holds of what is kept of the blocks
+by_counts : (m : Met) (b : Block) {told : Option Refusal} → ((before : List Block) → Counts m before → may_follow before b ≡ false → told ≡ repeat_of before b)
+    → (before : List Block) → m ≡ met_of before → may_follow before b ≡ false → told ≡ repeat_of before b
+by_counts m b h before e f = h before (rw e (refl, refl, refl)) f
+
 pub admits-requires : goal.admits-requires
 admits-requires c = reached_range c.loop-i.invariant c.loop-i-test.true (known (goal.at.admits-requires c).In-Kept)
 
 pub unwrap-refusal-requires : goal.unwrap-refusal-requires
 unwrap-refusal-requires c =
-    let t = reached_told c.loop-i.invariant c.loop-i-test.true (known (goal.at.unwrap-refusal-requires c).In-Kept) c.admits.ensures c.if-not-admits.true c.repeat_of.ensures in
+    let t = reached_told c.loop-i.invariant c.loop-i-test.true (known (goal.at.unwrap-refusal-requires c).In-Kept) c.admits.ensures c.if-not-admits.true (by_counts c.loop-i.seen c.in-Kept.block c.repeat_of.ensures) in
     rw t refl
 
 pub refused_data-requires-then-not-admits : goal.refused_data-requires-then-not-admits
@@ -71,7 +82,7 @@ refused_data-requires-then-not-admits c =
     let is : c.repeat_of.result ≡ Some c.unwrap-refusal.result = search rules in
     rw c.at.ensures
     (told_on (bits_of a.s.now) (blocks_from (announced a.refresh a.n) a.start (drop a.start (bits_of a.s.now))) _
-    (reached_repeated c.loop-i.invariant c.loop-i-test.true (known (goal.at.refused_data-requires-then-not-admits c).In-Kept) c.admits.ensures c.if-not-admits.true c.repeat_of.ensures is c.repeated.ensures)
+    (reached_repeated c.loop-i.invariant c.loop-i-test.true (known (goal.at.refused_data-requires-then-not-admits c).In-Kept) c.admits.ensures c.if-not-admits.true (by_counts c.loop-i.seen c.in-Kept.block c.repeat_of.ensures) is c.repeated.ensures)
     (no_blocks_lem (bits_of a.s.now) (announced a.refresh a.n) a.start c.requires))
 
 pub include-requires : goal.include-requires
@@ -97,7 +108,7 @@ overflow_add-r c =
 
 pub overflow_add-width-in-Kept : goal.overflow_add-width-in-Kept
 overflow_add-width-in-Kept c =
-    let x = reached_more c.loop-i.invariant c.loop-i-test.true (known (goal.at.overflow_add-width-in-Kept c).In-Kept) c.admits.ensures c.if-not-admits.false c.include.ensures in
+    let x = reached_more c.loop-i.invariant c.loop-i-test.true (known (goal.at.overflow_add-width-in-Kept c).In-Kept) c.admits.ensures c.if-not-admits.false c.include.ensures.kept in
     omega (arith, reached_near x c.requires)
 
 pub loop-i-preserved : goal.loop-i-preserved
@@ -108,7 +119,7 @@ loop-i-preserved c =
     elim c.match-part.branch [
       | in-Passed w ↦ rw (w.r-is, w.seen-is, w.width-is, w.skipped-is) (reached_past x i (rw w.in-Passed.is at o))
       | in-Kept+else-not-admits w ↦
-          rw (w.r-is, w.seen-is, w.width-is, w.skipped-is) (reached_more x i (rw w.in-Kept.is at o) w.admits.ensures w.if-not-admits.false w.include.ensures)
+          rw (w.r-is, w.seen-is, w.width-is, w.skipped-is) (reached_more x i (rw w.in-Kept.is at o) w.admits.ensures w.if-not-admits.false w.include.ensures.kept)
     ]
 
 -- ---- the end

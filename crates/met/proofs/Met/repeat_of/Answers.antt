@@ -7,16 +7,16 @@ use Rattle.refusals.specs.declared.Refusal.{Refusal}
 use Rattle.record.specs.declared.Block.{Block}
 use Rattle.valid.specs.Valid.{may_follow}
 use Rattle.met.specs.declared.Met.{Met}
-use Rattle.met.specs.Met.{met_of, repeat_of}
-use Rattle.met.proofs.Laws.{repeats, met_repeats}
+use Rattle.met.specs.Met.{Counts, repeat_of}
+use Rattle.met.proofs.Laws.{repeats, counts_repeat}
 use Rattle.met.proofs.Met.repeat_of.Goals as goal
 
 -- the refusal that the code gives is that of b behind the blocks that were met
-answered : {r : Option Refusal} {m : Met} (b : Block) → r ≡ repeats m b → (before : List Block) → m ≡ met_of before → may_follow before b ≡ false → r ≡ repeat_of before b
-answered b a before e h = a ∙ rw e (met_repeats before b h)
+answered : {r : Option Refusal} (m : Met) (b : Block) → r ≡ repeats m b → (before : List Block) → Counts m before → may_follow before b ≡ false → r ≡ repeat_of before b
+answered m b a before e h = a ∙ counts_repeat m before b e h
 
 pub returns-in-Level1 : goal.returns-in-Level1
-returns-in-Level1 c = answered c.args.b (rw c.in-Level1.is refl)
+returns-in-Level1 c = answered c.args.self.now c.args.b (rw c.in-Level1.is refl)
 
 pub returns-in-Level5 : goal.returns-in-Level5
-returns-in-Level5 c = answered c.args.b (rw c.in-Level5.is refl)
+returns-in-Level5 c = answered c.args.self.now c.args.b (rw c.in-Level5.is refl)

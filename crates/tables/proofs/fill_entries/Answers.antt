@@ -1,4 +1,4 @@
--- `tables::fill` meets its contract: the first k entries are as the layout has them.
+-- `tables::fill_entries` meets its contract: the first k entries are as the layout has them.
 use Rattle.std.proofs.Common.{◌≡◌, ◌<◌, ◌+◌, ◌*◌, ℕ, ℤ, List, length, take, drop, get_or, sym, ap, ◌∙◌, arith}
 use Rattle.std.proofs.Math.Seq.{paste, take_all}
 use Rattle.plan.specs.declared.Source.{Source}
@@ -6,7 +6,7 @@ use Rattle.track.specs.declared.Point.{Point}
 use Rattle.flat.proofs.Rows.{paste_more, pasted_whole}
 use Rattle.tables.specs.Table.{flat_point, point_length, table_length}
 use Rattle.tables.proofs.Laws.{chosen, length_chosen, laid_out, laid_at, laid_length}
-use Rattle.tables.proofs.fill.Goals as goal
+use Rattle.tables.proofs.fill_entries.Goals as goal
 
 pub loop-k-preserved : goal.loop-k-preserved
 loop-k-preserved c =
